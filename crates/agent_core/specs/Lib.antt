@@ -1,2 +1,3 @@
 pub mod AgentCores
 pub mod Answering
+pub mod AgentSeen

@@ -9,6 +9,7 @@ ghost use Rattle.written_net.specs.Channels.{agent_id, is_master};
 ghost use Rattle.written_roles.specs.Agents.{AgentRole, new_agent, table_by};
 ghost use Rattle.core_side.specs.Parcels.{packet_of, role_number, IsSent};
 ghost use Rattle.agent_core.specs.AgentCores.{StandsFor, table_in};
+ghost use Rattle.agent_core.specs.AgentSeen.{IsWhole, core_of};
 ghost use Rattle.agent_core.specs.Answering.{AnswersAlike, SendsAlike, ResyncsAlike, Steps};
 
 use crate::limit::RowLimit;
@@ -33,6 +34,13 @@ const STRANGER: Heard = Heard {
 /// a step; fewer than 2^50 may be taken.
 #[derive(Drop)]
 pub struct Agent {
+    /// On the heap, so that who hands an agent on hands on a pointer.
+    core: Box<Core>,
+}
+
+// What an agent keeps.
+#[derive(Drop)]
+pub(crate) struct Core {
     machine: MachineNo,
     limit: RowLimit,
     // What the received row takes.
@@ -42,15 +50,14 @@ pub struct Agent {
 }
 
 impl Model for Agent {
-    ghost use Rattle.std.specs.Prelude.{◌≡◌};
-    ghost use Rattle.fuxi_terms.specs.Rows.{row_total};
-    ghost use Rattle.agent_core.specs.AgentCores.{AgentCore, IsAgentCore};
+    ghost use Rattle.agent_core.specs.AgentCores.{AgentCore};
+    ghost use Rattle.agent_core.specs.AgentSeen.{IsWhole, core_of};
 
     ghost Value = { AgentCore };
 
-    ghost view = { λ a. record { machine = a.machine.0; has = a.limit.has.q; up = a.up; steps = a.steps } };
+    ghost view = { λ a. core_of a.core.value };
 
-    ghost invariant = { λ a. IsAgentCore (record { machine = a.machine.0; has = a.limit.has.q; up = a.up; steps = a.steps }) × (a.total.q ≡ row_total a.up.incoming.received) };
+    ghost invariant = { λ a. IsWhole a.core.value };
 }
 
 impl Agent {
@@ -68,12 +75,15 @@ impl Agent {
         ensures steps { IfOk result (λ a. a.steps ≡ 0) }
     {
         let limit = RowLimit { has };
-        Ok(Agent {
+        let core = Core {
             machine,
             limit,
             total: limit.nothing(),
             up: Side::start(alloc, boot)?,
             steps: 0,
+        };
+        Ok(Agent {
+            core: Box::new(alloc, core)?,
         })
     }
 
@@ -81,31 +91,17 @@ impl Agent {
     /// and reports it. Answers the agent after it, whether the sender is a new master, and the word of the rule that ended it.
     ///
     /// Where memory is refused the agent is gone.
-    pub fn on_packet(
-        mut self,
-        alloc: Global,
-        packet: &Packet,
-    ) -> Result<(Agent, Heard), OutOfMemory>
+    pub fn on_packet(self, alloc: Global, packet: &Packet) -> Result<(Agent, Heard), OutOfMemory>
         requires formed { IsFormed packet.now }
         requires no_end { packet.now.kind ≡ Kind.End → ⊥ }
         requires steps { self.steps < most_steps }
         ensures hears { IfOk result (λ after. AnswersAlike packet.now self after.0 after.1) }
         ensures steps { IfOk result (λ after. Steps self after.0) }
     {
-        self.steps += 1;
-        if !is_for(packet, self.machine) {
-            law::strangers_change_nothing();
-            return Ok((self, STRANGER));
-        }
-        if packet.from.inc <= self.up.peer() {
-            let heard = self.up.hear(alloc, packet, &self.limit, &mut self.total)?;
-            return Ok((self, heard));
-        }
-        let table = self.table().copy(alloc)?;
-        let heard = self.up.hear(alloc, packet, &self.limit, &mut self.total)?;
-        self.up
-            .post(alloc, JoinLedger::make(packet.from.inc, table))?;
-        Ok((self, heard))
+        let Agent { core } = self;
+        let mut core = core;
+        let heard = core.hear(alloc, packet)?;
+        Ok((Agent { core }, heard))
     }
 
     /// What the next turn sends: nothing where no master is known. It changes nothing. Where memory is refused there
@@ -115,10 +111,11 @@ impl Agent {
         ensures formed { IfOk result (AllByRecursion IsSent) }
     {
         let mut packets = Packets::new(alloc);
-        if self.up.peer() == 0 {
+        let core = &self.core;
+        if core.up.peer() == 0 {
             return Ok(packets);
         }
-        self.up.turn(alloc, self.machine.0, 0, &mut packets)?;
+        core.up.turn(alloc, core.machine.0, 0, &mut packets)?;
         Ok(packets)
     }
 
@@ -128,8 +125,9 @@ impl Agent {
         ensures resyncs { ResyncsAlike self.old self.new }
         ensures steps { Steps self.old self.new }
     {
-        self.steps += 1;
-        self.up.resync();
+        let core = &mut self.core;
+        core.steps += 1;
+        core.up.resync();
     }
 
     /// The table that the agent enforces: what came of the master's row, and before that what was carried. It fits the machine.
@@ -138,39 +136,75 @@ impl Agent {
         ensures table { (r : AgentRole) → StandsFor self.now r → result.now ≡ table_by r.up }
         ensures fits { fits (row_total result.now) self.now.has ≡ true }
     {
-        if self.up.place().seq == 0 {
-            self.up.sent().table()
-        } else {
-            self.up.got()
-        }
+        self.core.table()
     }
 
     /// The place in the master's history.
     pub fn place(&self) -> Place
         ensures { result ≡ self.now.up.incoming.place }
     {
-        self.up.place()
+        self.core.up.place()
     }
 
     /// The incarnation of this agent.
     pub fn boot(&self) -> u64
         ensures { result ≡ self.now.up.outgoing.own }
     {
-        self.up.own()
+        self.core.up.own()
     }
 
     /// The last index of its own channel.
     pub fn last(&self) -> u64
         ensures { result ≡ self.now.up.outgoing.last }
     {
-        self.up.last()
+        self.core.up.last()
     }
 
     /// The number of its steps.
     pub fn steps(&self) -> u64
         ensures { result ≡ self.now.steps }
     {
-        self.steps
+        self.core.steps
+    }
+}
+
+impl Core {
+    // Hears a packet. Where memory is refused nothing is said of what is left.
+    fn hear(&mut self, alloc: Global, packet: &Packet) -> Result<Heard, OutOfMemory>
+        requires formed { IsFormed packet.now }
+        requires no_end { packet.now.kind ≡ Kind.End → ⊥ }
+        requires steps { self.old.steps < most_steps }
+        requires whole { IsWhole self.old }
+        ensures hears { IfOk result (AnswersAlike packet.now (core_of self.old) (core_of self.new)) }
+        ensures steps { OnOk result (Steps (core_of self.old) (core_of self.new)) }
+        ensures whole { OnOk result (IsWhole self.new) }
+    {
+        self.steps += 1;
+        if !is_for(packet, self.machine) {
+            law::strangers_change_nothing();
+            return Ok(STRANGER);
+        }
+        if packet.from.inc <= self.up.peer() {
+            let heard = self.up.hear(alloc, packet, &self.limit, &mut self.total)?;
+            return Ok(heard);
+        }
+        let table = self.table().copy(alloc)?;
+        let heard = self.up.hear(alloc, packet, &self.limit, &mut self.total)?;
+        self.up
+            .post(alloc, JoinLedger::make(packet.from.inc, table))?;
+        Ok(heard)
+    }
+
+    // The table that is enforced.
+    fn table(&self) -> &RowLedger
+        ensures value { result.now ≡ table_in self.now.up }
+        ensures table { (r : AgentRole) → StandsFor (core_of self.now) r → result.now ≡ table_by r.up }
+    {
+        if self.up.place().seq == 0 {
+            self.up.sent().table()
+        } else {
+            self.up.got()
+        }
     }
 }
 

@@ -61,7 +61,7 @@ impl Allotment {
     ghost use Rattle.written_roles.specs.HardState.{with_job};
     ghost use Rattle.written_roles.specs.Masters.{Master, asked, out_of};
     ghost use Rattle.written_roles.specs.Placing.{granted, line_after, line_up, settled};
-    ghost use Rattle.place_pass.specs.Placers.{IsUpToDate, AsksNoMore, asks_seen, is_open, units_seen};
+    ghost use Rattle.place_pass.specs.Placers.{IsUpToDate, AsksNoMore, AsksOtherwiseAt, asks_seen, is_open, units_seen};
     ghost use Rattle.std.specs.Prelude.{IfSome, Some, slice_get};
     ghost use Rattle.std.specs.Option.{option_map};
     ghost use Rattle.place_pass.specs.Best.{spot_of};
@@ -154,6 +154,21 @@ impl Allotment {
     {
         place_pass::law::levels();
         self.placer.asked(&self.table, app, demand);
+    }
+
+    /// The same, of a demand that asks otherwise than before only at keys that these changes name.
+    pub fn asked_at(&mut self, app: AppNo, demand: &Demand, changes: &[(Key, i64)])
+        requires job { 0 < unit_count (as_known self.old.table.jobs) app.0 }
+        requires told { AsksOtherwiseAt changes.now self.old.placer.seen app.0 demand.now.entries }
+        ensures stands { (c : ClusterRecord) (M : Master) (head : ℕ) → Allots self.old c M
+            → Allots self.new c (record M { demands = put nat_cmp app.0 (counted c M.jobs app.0 (tally_ledger head demand.now.entries)) M.demands }) }
+        ensures table { self.new.table ≡ self.old.table }
+        ensures touched { self.new.touched ≡ self.old.touched }
+        ensures turns { self.new.placer.seen.turns ≡ self.old.placer.seen.turns }
+        ensures idle { AsksNoMore (asks_seen self.old.placer.seen) (asks_seen self.new.placer.seen) app.0 → self.new.placer.idle ≡ self.old.placer.idle }
+    {
+        place_pass::law::levels();
+        self.placer.asked_at(&self.table, app, demand, changes);
     }
 
     /// So many grants fewer. Where the pairs of the line have something out the line stays as it is, and where the
@@ -481,10 +496,11 @@ impl Allotment {
         &self.table
     }
 
-    /// The placer. It has as many units of each job as the table.
+    /// The placer. It has the table's cluster, and as many units of each job as the table.
     pub fn placer(&self) -> &Placer
         ensures seen { result.now.seen ≡ self.now.placer.seen }
         ensures idle { result.now.idle ≡ self.now.placer.idle }
+        ensures cluster { result.now.seen.cluster ≡ self.now.table.cluster }
         ensures units { (a : ℕ) → units_seen result.now.seen a ≡ unit_count (as_known self.now.table.jobs) a }
     {
         place_pass::law::levels();

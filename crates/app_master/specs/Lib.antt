@@ -3,3 +3,4 @@ pub mod AppCores
 pub mod Asking
 pub mod AppCommands
 pub mod AppPackets
+pub mod AppSeen

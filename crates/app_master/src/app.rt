@@ -11,7 +11,8 @@ ghost use Rattle.party_ledgers.specs.declared.packets.Kind.TheVariants.{End};
 ghost use Rattle.written_roles.specs.Apps.{AppRole, new_app, demands_alone, held_by, usable_by, given_by, app_resynced, names, Wants, WantsNear, WantsInRack, Avoids, GivesBack};
 ghost use Rattle.core_side.specs.Parcels.{role_number, IsSent};
 ghost use Rattle.app_master.specs.Usable.{is_named, usable_in, held_in};
-ghost use Rattle.app_master.specs.AppCores.{StandsFor};
+ghost use Rattle.app_master.specs.AppCores.{IsAppCore, StandsFor};
+ghost use Rattle.app_master.specs.AppSeen.{core_of};
 ghost use Rattle.app_master.specs.AppCommands.{Commands};
 ghost use Rattle.app_master.specs.AppPackets.{is_for, HearsAlike, SendsAlike};
 
@@ -42,6 +43,13 @@ const STRANGER: Heard = Heard {
 /// What its calls do is said of every application by itself that it stands for (`StandsFor`).
 #[derive(Drop)]
 pub struct AppMaster {
+    /// On the heap, so that who hands an application on hands on a pointer.
+    core: Box<Core>,
+}
+
+// What an application keeps.
+#[derive(Drop)]
+pub(crate) struct Core {
     app: AppNo,
     units: u8,
     machines: u32,
@@ -53,12 +61,13 @@ pub struct AppMaster {
 
 impl Model for AppMaster {
     ghost use Rattle.app_master.specs.AppCores.{AppCore, IsAppCore};
+    ghost use Rattle.app_master.specs.AppSeen.{core_of};
 
     ghost Value = { AppCore };
 
-    ghost view = { λ a. record { job = a.app.0; units = a.units; machines = a.machines; racks = a.racks; carried = a.carried; up = a.up; steps = a.steps } };
+    ghost view = { λ a. core_of a.core.value };
 
-    ghost invariant = { λ a. IsAppCore (record { job = a.app.0; units = a.units; machines = a.machines; racks = a.racks; carried = a.carried; up = a.up; steps = a.steps }) };
+    ghost invariant = { λ a. IsAppCore (core_of a.core.value) };
 }
 
 impl AppMaster {
@@ -78,7 +87,7 @@ impl AppMaster {
         ensures steps { IfOk result (λ a. a.steps ≡ 0) }
     {
         let machines = cluster.machines();
-        Ok(AppMaster {
+        let core = Core {
             app,
             units,
             machines,
@@ -86,6 +95,9 @@ impl AppMaster {
             carried: Carried::nothing(alloc, machines)?,
             up: Side::start(alloc, boot)?,
             steps: 0,
+        };
+        Ok(AppMaster {
+            core: Box::new(alloc, core)?,
         })
     }
 
@@ -199,7 +211,7 @@ impl AppMaster {
         if count > u64::from(usable) {
             return Err(AppFault::NotUsable { usable });
         }
-        let given = given(self.up.sent(), unit, machine);
+        let given = given(self.core.up.sent(), unit, machine);
         if given + count > GREATEST_BACK {
             return Err(AppFault::BackRange);
         }
@@ -211,7 +223,7 @@ impl AppMaster {
     ///
     /// Where memory is refused the application is gone.
     pub fn on_packet(
-        mut self,
+        self,
         alloc: Global,
         packet: &Packet,
     ) -> Result<(AppMaster, Heard), OutOfMemory>
@@ -221,20 +233,10 @@ impl AppMaster {
         ensures hears { IfOk result (HearsAlike self packet.now) }
         ensures steps { IfOk result (λ after. after.0.steps ≡ self.steps + 1) }
     {
-        law::strangers_change_nothing();
-        self.steps += 1;
-        if !is_for(packet, self.app) {
-            return Ok((self, STRANGER));
-        }
-        if packet.from.inc <= self.up.peer() {
-            let heard = self.up.hear(alloc, packet, &NoLimit, &mut ())?;
-            return Ok((self, heard));
-        }
-        self.carried
-            .join(self.up.got(), self.up.sent(), self.up.own(), self.units);
-        let heard = self.up.hear(alloc, packet, &NoLimit, &mut ())?;
-        join(&mut self.up, alloc, packet.from.inc)?;
-        Ok((self, heard))
+        let AppMaster { core } = self;
+        let mut core = core;
+        let heard = core.hear(alloc, packet)?;
+        Ok((AppMaster { core }, heard))
     }
 
     /// What the next turn sends. It changes nothing. Where memory is refused there are no packets.
@@ -243,10 +245,10 @@ impl AppMaster {
         ensures sends { IfOk result (SendsAlike self.now) }
     {
         let mut packets = Packets::new(alloc);
-        if self.up.peer() == 0 {
+        if self.core.up.peer() == 0 {
             return Ok(packets);
         }
-        self.up.turn(alloc, self.app.0, 0, &mut packets)?;
+        self.core.up.turn(alloc, self.core.app.0, 0, &mut packets)?;
         Ok(packets)
     }
 
@@ -256,8 +258,8 @@ impl AppMaster {
         ensures resyncs { (r : AppRole) → StandsFor self.old r → StandsFor self.new (app_resynced r) }
         ensures steps { self.new.steps ≡ self.old.steps + 1 }
     {
-        self.up.resync();
-        self.steps += 1;
+        self.core.up.resync();
+        self.core.steps += 1;
     }
 
     /// How many grants of a unit are held on a machine: of a machine that the master names as reported its count without
@@ -269,9 +271,15 @@ impl AppMaster {
         ensures alone { (r : AppRole) → StandsFor self.now r → result ≡ held_by r unit.0 machine.0 }
     {
         if self.carried(machine) {
-            self.carried.count(unit, machine)
+            self.core.carried.count(unit, machine)
         } else {
-            usable(self.up.got(), self.up.sent(), self.up.own(), unit, machine)
+            usable(
+                self.core.up.got(),
+                self.core.up.sent(),
+                self.core.up.own(),
+                unit,
+                machine,
+            )
         }
     }
 
@@ -280,49 +288,49 @@ impl AppMaster {
         ensures core { result ≡ not (is_named self.now.up.incoming.received machine.0) }
         ensures alone { (r : AppRole) → StandsFor self.now r → result ≡ not (names r.up.got machine.0) }
     {
-        !is_named(self.up.got(), machine)
+        !is_named(self.core.up.got(), machine)
     }
 
     /// The place in the master's history to which it has come.
     pub fn place(&self) -> Place
         ensures { result ≡ self.now.up.incoming.place }
     {
-        self.up.place()
+        self.core.up.place()
     }
 
     /// The last index of its own history.
     pub fn last(&self) -> u64
         ensures { result ≡ self.now.up.outgoing.last }
     {
-        self.up.last()
+        self.core.up.last()
     }
 
     /// Its boot.
     pub fn boot(&self) -> u64
         ensures { result ≡ self.now.up.outgoing.own }
     {
-        self.up.own()
+        self.core.up.own()
     }
 
     /// How many units its job has, 1 to 8.
     pub fn units(&self) -> u8
         ensures { result ≡ self.now.units }
     {
-        self.units
+        self.core.units
     }
 
     /// How many machines the cluster has.
     pub fn machines(&self) -> u32
         ensures { result ≡ self.now.machines }
     {
-        self.machines
+        self.core.machines
     }
 
     /// How many steps it took: packets heard, commands done and resyncs.
     pub fn steps(&self) -> u64
         ensures { result ≡ self.now.steps }
     {
-        self.steps
+        self.core.steps
     }
 
     // What may be given back of a unit on a machine.
@@ -334,7 +342,13 @@ impl AppMaster {
         if self.carried(machine) {
             0
         } else {
-            usable(self.up.got(), self.up.sent(), self.up.own(), unit, machine)
+            usable(
+                self.core.up.got(),
+                self.core.up.sent(),
+                self.core.up.own(),
+                unit,
+                machine,
+            )
         }
     }
 
@@ -343,7 +357,7 @@ impl AppMaster {
         ensures is { result ≡ get_or self.now.racks rack.0 false }
         ensures there { IsTrue result → rack.0 < 64 }
     {
-        rack.0 < MOST_RACKS && self.racks[rack.0 as usize]
+        rack.0 < MOST_RACKS && self.core.racks[rack.0 as usize]
     }
 
     fn test_unit(&self, unit: UnitNo) -> Result<(), AppFault>
@@ -351,7 +365,7 @@ impl AppMaster {
         ensures small { OnOk result (unit.0 < most_units) }
         ensures err { IfErr result (λ fault. (fault ≡ AppFault.NoUnit) × (nat_lt unit.0 self.now.units ≡ false)) }
     {
-        if unit.0 < self.units {
+        if unit.0 < self.core.units {
             Ok(())
         } else {
             Err(AppFault::NoUnit)
@@ -363,7 +377,7 @@ impl AppMaster {
         ensures small { OnOk result (machine.0 < most_machines) }
         ensures err { IfErr result (λ fault. (fault ≡ AppFault.NoMachine) × (nat_lt machine.0 self.now.machines ≡ false)) }
     {
-        if machine.0 < self.machines {
+        if machine.0 < self.core.machines {
             Ok(())
         } else {
             Err(AppFault::NoMachine)
@@ -390,11 +404,39 @@ impl AppMaster {
             unit: unit.0,
             number: place,
         };
-        if set_number(&mut self.up, alloc, key, number).is_err() {
+        if set_number(&mut self.core.up, alloc, key, number).is_err() {
             return Err(AppFault::OutOfMemory);
         }
-        self.steps += 1;
+        self.core.steps += 1;
         Ok(())
+    }
+}
+
+impl Core {
+    // Hears a packet. Where memory is refused nothing is said of what is left.
+    fn hear(&mut self, alloc: Global, packet: &Packet) -> Result<Heard, OutOfMemory>
+        requires formed { IsFormed packet.now }
+        requires no_end { packet.now.kind ≡ End → ⊥ }
+        requires steps { self.old.steps < most_steps }
+        requires core { IsAppCore (core_of self.old) }
+        ensures hears { IfOk result (λ heard. HearsAlike (core_of self.old) packet.now (core_of self.new, heard)) }
+        ensures steps { OnOk result (self.new.steps ≡ self.old.steps + 1) }
+        ensures core { OnOk result (IsAppCore (core_of self.new)) }
+    {
+        law::strangers_change_nothing();
+        self.steps += 1;
+        if !is_for(packet, self.app) {
+            return Ok(STRANGER);
+        }
+        if packet.from.inc <= self.up.peer() {
+            let heard = self.up.hear(alloc, packet, &NoLimit, &mut ())?;
+            return Ok(heard);
+        }
+        self.carried
+            .join(self.up.got(), self.up.sent(), self.up.own(), self.units);
+        let heard = self.up.hear(alloc, packet, &NoLimit, &mut ())?;
+        join(&mut self.up, alloc, packet.from.inc)?;
+        Ok(heard)
     }
 }
 

@@ -271,7 +271,7 @@ fn counts_by_job(
 fn empty_lists(alloc: Global, jobs: usize) -> Result<Vec<Vec<(Key, u64)>>, OutOfMemory>
     ensures { IfOk result (λ lists. AreByJob [] jobs lists.items) }
 {
-    let mut lists = Vec::new(alloc);
+    let mut lists = Vec::with_capacity(alloc, jobs)?;
     for _ in 0..jobs {
         lists.push(Vec::new(alloc))?;
     }

@@ -131,7 +131,7 @@ fn touched(
 fn empty_lists(alloc: Global, machines: usize) -> Result<Vec<Vec<RowNumber>>, OutOfMemory>
     ensures { IfOk result (λ lists. numbers_of lists.items ≡ replicate machines []) }
 {
-    let mut lists = Vec::new(alloc);
+    let mut lists = Vec::with_capacity(alloc, machines)?;
     for _ in 0..machines {
         lists.push(Vec::new(alloc))?;
     }

@@ -22,7 +22,7 @@ use Rattle.fuxi_master.specs.declared.event.Outcome.{Outcome}
 use Rattle.fuxi_master.specs.declared.event.MasterEvent.TheVariants.{Packet as PacketComes, Turn, TurnTo}
 use Rattle.fuxi_master.specs.declared.event.Outcome.TheVariants.{Done, Refused, Sent, Heard as HeardOne}
 use Rattle.fuxi_master.specs.declared.event.MasterRefusal.TheVariants.{AlreadyServing, NotServing, NothingToPreempt}
-use Rattle.fuxi_master.specs.Cores.{CoreRecord, IsNear, IsCore, IsWithin, StandsFor}
+use Rattle.fuxi_master.specs.Cores.{CoreRecord, IsCore, IsWithin, StandsFor}
 use Rattle.fuxi_master.specs.Commands.{changed_by, beginning, MakesRoom}
 use Rattle.fuxi_master.specs.Heard.{Changes, IsNews}
 use Rattle.fuxi_master.specs.Steps.{Answers, IsSentFormed, IsStep, IsHeard, StepsAlike, HasRole, EndsAlike, agent_named, app_named, forced_by}
@@ -66,10 +66,11 @@ preempt_nothing x on r h none =
     let is : change_of r.cluster r.state MakesIt ≡ Err SaysNothing = (λ i. unless_fault ((not ((h.stands.serving ∙ on) i), SaysNot) ∷ []) (with_found (none i) (Err SaysNothing) (λ p. changed_to (preempted r.state p)))) in
     subst (Answers x (Refused NothingToPreempt)) (sym (ap (changes_as r) is)) (record { role = h; says = refl })
 
-pub has_room : (news : News) (x y : CoreRecord) → IsNear x → MakesRoom news x y → HasRole news y
-has_room news x y near made =
+pub has_room : (news : News) (x y : CoreRecord) → IsCore x → MakesRoom news x y → HasRole news y
+has_room news x y core made =
+    let near = core.near in
     let room = made.made near.role near.stands in
-    record { role = changed_by (λ M. line_up (preempted M room.plan)) near.role; stands = room.stands }
+    record { role = changed_by (λ M. line_up (preempted M room.plan)) near.role; stands = room.stands; told = record { told = core.told.told } }
 
 pub room_made : (x y v : CoreRecord) (news : News) → x.serving ≡ true → IsNews None None news → MakesRoom news x y → EndsAlike news y v → (r : MasterRole) → StandsFor x r → Answers v Done (master_steps_alone r (Told MakesIt))
 room_made x y v news on is made ends r h =

@@ -1,26 +1,39 @@
 -- A core that heard an application is in order, but that its grants do not have a new boot yet.
-use Rattle.std.proofs.Common.{◌≡◌, ℕ, ◌<◌, ◌≤◌, Bool, true, false, nat_eq, nat_lt, length, set, Some, None, slice_get, refl, sym, ◌∙◌, ap, subst, arith}
+use Rattle.std.proofs.Common.{◌≡◌, ℕ, ◌<◌, ◌≤◌, Bool, true, false, cond, not, nat_eq, nat_lt, length, set, Some, None, Ok, slice_get, refl, sym, ◌∙◌, ap, subst, arith}
 use Rattle.std.specs.Prelude.{◌&&◌, ◌||◌, is_some, if◌then◌else◌}
 use Rattle.std.proofs.lemmas.Bool.Decides.{nat_tests}
-use Rattle.fuxi_terms.specs.Jobs.{is_known}
-use Rattle.fuxi_terms.specs.Tallies.{empty_tally}
+use Rattle.fuxi_terms.specs.Counts.{count}
+use Rattle.fuxi_terms.specs.Jobs.{is_known, is_live, has_ended, unit_count}
+use Rattle.fuxi_terms.specs.Keys.{key_cmp}
+use Rattle.fuxi_terms.specs.Tallies.{ChangeRecord, empty_tally}
 use Rattle.fuxi_terms.specs.TallyKeys.{greatest_grant}
-use Rattle.fuxi_terms.proofs.Booleans.{both_true, nat_itself}
+use Rattle.fuxi_terms.proofs.Booleans.{both_true, both_false, nat_itself, number_is, eq_turned}
+use Rattle.fuxi_terms.proofs.CountsLemmas.{count_where}
+use Rattle.fuxi_terms.proofs.KeyOrders.{same_key}
 use Rattle.ledger_law.specs.Shapes.{IsTally}
 use Rattle.party_ledgers.specs.declared.packets.Heard.{Heard}
+use Rattle.party_ledgers.specs.declared.packets.Body.TheVariants.{DemandDelta}
 use Rattle.party_ledgers.specs.declared.packets.Packet.{Packet}
 use Rattle.fuxi_terms.specs.Limits.{most_machines}
 use Rattle.party_ledgers.specs.Packets.{IsFormed, is_number_of, to_agent, to_app}
 use Rattle.schedule_unit.specs.declared.party.Role.TheVariants.{App as AsApp}
-use Rattle.written_net.specs.Channels.{master_id, app_id}
-use Rattle.written_roles.specs.MasterRoles.{MasterRole}
+use Rattle.written_net.specs.Net.{hear, is_taken}
+use Rattle.written_net.specs.Ledgers.{Ledger, nothing, at_key, TallyChange}
+use Rattle.written_net.specs.Channels.{master_id, app_id, dropped_by}
+use Rattle.written_net.specs.Sides.{Side, HeardSide, greatest_from, patched_by}
+use Rattle.written_roles.specs.Masters.{demand_of}
+use Rattle.written_roles.specs.MasterSteps.{master_party, is_there, counted}
+use Rattle.written_roles.specs.MasterRoles.{MasterRole, report_excess}
 use Rattle.core_side.specs.Bodies.{tally_of}
-use Rattle.core_side.specs.Parcels.{packet_of}
+use Rattle.core_side.specs.Parcels.{packet_of, parcel_is, content_of}
 use Rattle.core_side.specs.CoreSides.{HearsAlike}
 use Rattle.broadcast.specs.AllShown.{App, ShowsJob}
 use Rattle.fuxi_master.specs.Cores.{CoreRecord, IsNear, IsCore, HasBoots, IsWithin, StandsFor, patched_grants}
-use Rattle.fuxi_master.specs.Heard.{heard_of, with_heard, HearsApp}
-use Rattle.fuxi_master.proofs.AppHeardAlike.{each_app, stands_heard, hears_app}
+use Rattle.fuxi_master.specs.Heard.{heard_of, with_heard, HearsApp, IsAppHeard, ChangesAsked}
+use Rattle.fuxi_master.specs.ToldAsHeard.{IsHeardOnly, AsksButAt}
+use Rattle.fuxi_master.proofs.AppHeardAlike.{each_app, heard_side, stands_heard, hears_app}
+use Rattle.fuxi_master.proofs.ChangedTallies.{IsLeft, left_untaken, made_taken, tally_left}
+use Rattle.fuxi_master.proofs.DemandTaken.{live_is}
 use Rattle.fuxi_master.proofs.Indexed.{each_set, length_set}
 
 module _ (x : CoreRecord) (core : IsCore x) (a : ℕ) (old new : App) (packet : Packet) (heard : Heard)
@@ -32,7 +45,7 @@ module _ (x : CoreRecord) (core : IsCore x) (a : ℕ) (old new : App) (packet : 
   each : (P : ℕ → App → Type 0) → P a new → ((b : ℕ) (d : App) → nat_eq a b ≡ false → slice_get x.apps b ≡ Some (Some d) → P b d) → (b : ℕ) (d : App) → slice_get (set x.apps a (Some new)) b ≡ Some (Some d) → P b d
   each P here others = each_app x a old new packet heard lt at known hears outgoing to core.near.role core.near.stands P here others
 
-  pub heard_near : IsNear after
+  heard_near : IsNear after
   heard_near = record {
     kept = record {
       epoch = core.near.kept.epoch;
@@ -56,7 +69,7 @@ module _ (x : CoreRecord) (core : IsCore x) (a : ℕ) (old new : App) (packet : 
     stands = stands_heard x a old new packet heard lt at known hears outgoing to core.near.role core.near.stands;
   }
 
-  pub heard_boots : heard.fresh ≡ nat_lt old.incoming.place.inc packet.from.inc → new.incoming.place.inc ≡ (if nat_lt old.incoming.place.inc packet.from.inc then packet.from.inc else old.incoming.place.inc) → HasBoots (λ b. heard.fresh && nat_eq b a) after
+  heard_boots : heard.fresh ≡ nat_lt old.incoming.place.inc packet.from.inc → new.incoming.place.inc ≡ (if nat_lt old.incoming.place.inc packet.from.inc then packet.from.inc else old.incoming.place.inc) → HasBoots (λ b. heard.fresh && nat_eq b a) after
   heard_boots fresh peer = record {
     known = each (λ b (d : App). (heard.fresh && nat_eq b a) ≡ false → d.outgoing.present.head ≡ d.incoming.place.inc)
         (λ off. ap (λ o. o.present.head) outgoing ∙ core.boots.known a old at refl ∙ sym (same (sym (ap (λ t. heard.fresh && t) (nat_itself a)) ∙ off)))
@@ -80,15 +93,110 @@ module _ (x : CoreRecord) (core : IsCore x) (a : ℕ) (old new : App) (packet : 
           by true e = e
           by false e = refl
 
-  pub heard_within : (n : ℕ) → IsWithin n x → IsWithin n after
+  abbrev R : MasterRole
+  R = core.near.role
+
+  abbrev heard_now : HeardSide
+  heard_now = heard_of R (app_id a) packet
+
+  alike : HearsApp a packet heard after R
+  alike = hears_app x a old new packet heard lt at known hears outgoing to R core.near.stands
+
+  -- what was received of it
+  untaken_got : is_taken heard.what ≡ false → heard_now.side.got ≡ cond heard.fresh nothing (R.sides (app_id a)).got
+  untaken_got off =
+      let e = R.sides (app_id a) in
+      left_untaken (hear (master_party R.state) true (length e.sent) e.link (packet_of packet)) e (parcel_is packet) (report_excess R.cluster R.state (app_id a)) (ap is_taken (sym alike.says) ∙ off)
+      ∙ ap (λ f. cond f nothing e.got) (sym alike.fresh)
+
+  abbrev side_at : ℕ → Bool → Side
+  side_at b t = elim t as (λ _. Side) [ true ↦ heard_now.side | false ↦ R.sides (app_id b) ]
+
+  -- so what was told of the others is what was received of them
+  heard_only : IsHeardOnly a heard.fresh (is_taken heard.what) (with_heard R (app_id a) heard_now)
+  heard_only = record {
+    others = record {
+      told = λ b off live head. elim (nat_eq a b) as (λ t. nat_eq a b ≡ t → (side_at b t).got.head ≡ R.state.epoch → demand_of R.state b ≡ counted R.cluster R.state.jobs b (side_at b t).got) [
+        | true ↦ λ e head.
+            let quiet = both_false heard.fresh (is_taken heard.what) (other_false (heard.fresh || is_taken heard.what) (nat_eq b a) off (eq_turned b a ∙ e)) in
+            let same : heard_now.side.got ≡ (R.sides (app_id b)).got = untaken_got quiet.1 ∙ ap (λ f. cond f nothing (R.sides (app_id a)).got) quiet.0 ∙ ap (λ (k : ℕ). (R.sides (app_id k)).got) (number_is a b e) in
+            core.told.told b refl live (ap (λ (l : Ledger). l.head) (sym same) ∙ head) ∙ ap (counted R.cluster R.state.jobs b) (sym same)
+        | false ↦ λ e head. core.told.told b refl live head
+      ] refl head;
+    };
+    bare = λ fresh off head.
+        let got : heard_now.side.got ≡ nothing = untaken_got off ∙ ap (λ f. cond f nothing (R.sides (app_id a)).got) fresh in
+        let zero : 0 ≡ R.state.epoch = ap (λ (l : Ledger). l.head) (sym got) ∙ ap (λ t. (side_at a t).got.head) (sym (nat_itself a)) ∙ head in
+        let epoch = core.near.stands.stands.epoch in
+        let positive = core.near.kept.epoch in
+        omega (arith, zero, epoch, positive);
+  }
+    where
+      other_false : (p q : Bool) → (p && q) ≡ false → q ≡ true → p ≡ false
+      other_false true q e t = absurd (let f : true ≡ false = sym t ∙ e in cc)
+      other_false false q e t = refl
+
+  -- a change of a demand that counted names the keys at which it asks otherwise now
+  module _ (counted_before : (nat_eq old.incoming.received.head x.epoch && not (has_ended x.known.jobs a)) ≡ true) (change : ChangeRecord) (body : packet.body ≡ DemandDelta change) where
+    change_left : heard.fresh ≡ false → is_taken heard.what ≡ true → IsLeft (greatest_from (packet_of packet).from.id) change (R.sides (app_id a)).got heard_now.side.got
+    change_left fresh taken =
+        let e = R.sides (app_id a) in
+        let from = (packet_of packet).from.id in
+        let made = made_taken (hear (master_party R.state) true (length e.sent) e.link (packet_of packet)) e (parcel_is packet) (report_excess R.cluster R.state (app_id a)) (ap is_taken (sym alike.says) ∙ taken) in
+        let one : patched_by from e.got (TallyChange change) ≡ Ok heard_now.side.got = (λ i. patched_by from (cond ((sym fresh ∙ alike.fresh) i) nothing e.got) (content_of (sym body i))) ∙ made in
+        tally_left (greatest_from from) (dropped_by from) e.got heard_now.side.got change one
+
+    asked_new : heard.fresh ≡ false → is_taken heard.what ≡ true → new.incoming.received.head ≡ x.epoch → AsksButAt change.entries a new.incoming.received.entries x.allotment
+    asked_new fresh taken now =
+        let h = core.near.stands in
+        let e = R.sides (app_id a) in
+        let p = is_there R.cluster (unit_count R.state.jobs a) in
+        let left = change_left fresh taken in
+        let counts = both_true (nat_eq old.incoming.received.head x.epoch) (not (has_ended x.known.jobs a)) counted_before in
+        let got_old = (h.stands.apps a old at).got in
+        let got_new = (heard_side x a old new packet heard lt at known hears outgoing to R h).side.got in
+        let before : e.got.head ≡ x.epoch = ap (λ (l : Ledger). l.head) got_old ∙ number_is old.incoming.received.head x.epoch counts.0 in
+        let kept : change.head ≡ e.got.head = sym left.head ∙ ap (λ (l : Ledger). l.head) got_new ∙ now ∙ sym before in
+        let live : is_live R.state.jobs a ≡ true = ap (λ js. is_live js a) h.stands.jobs ∙ live_is x.known.jobs a known ∙ counts.1 in
+        let told = core.told.told a refl live (before ∙ sym h.stands.epoch) in
+        record {
+          cluster = R.cluster;
+          master = R.state;
+          allots = h.stands.allots;
+          asks = λ k off.
+              ap (λ l. at_key l k) told
+              ∙ count_where key_cmp same_key p e.got.entries k
+              ∙ ap (λ n. cond (p k) n 0) (sym (left.entries kept k off) ∙ ap (λ (l : Ledger). count key_cmp l.entries k) got_new)
+              ∙ sym (count_where key_cmp same_key p new.incoming.received.entries k);
+        }
+
+    pub changes_asked : ChangesAsked a heard.fresh (is_taken heard.what) change after
+    changes_asked = record {
+      asks = λ d there. each (λ b (d : App). nat_eq a b ≡ true → heard.fresh ≡ false → is_taken heard.what ≡ true → d.incoming.received.head ≡ x.epoch → AsksButAt change.entries a d.incoming.received.entries x.allotment)
+          (λ _. asked_new)
+          (λ b d off e t. absurd (let f : true ≡ false = sym t ∙ off in cc))
+          a d there (nat_itself a);
+    }
+
+  heard_within : (n : ℕ) → IsWithin n x → IsWithin n after
   heard_within n w = record {
     agents = w.agents;
     apps = each (λ _ (d : App). d.outgoing.last ≤ n) (let last : new.outgoing.last ≡ old.outgoing.last = ap (λ o. o.last) outgoing in let le = w.apps a old at in omega (arith, last, le)) (λ b d _ e. w.apps b d e);
     turns = w.turns;
   }
 
-  pub heard_alike : (r : MasterRole) → StandsFor x r → HearsApp a packet heard after r
+  heard_alike : (r : MasterRole) → StandsFor x r → HearsApp a packet heard after r
   heard_alike r h = hears_app x a old new packet heard lt at known hears outgoing to r h
+
+  pub app_heard : heard.fresh ≡ nat_lt old.incoming.place.inc packet.from.inc → new.incoming.place.inc ≡ (if nat_lt old.incoming.place.inc packet.from.inc then packet.from.inc else old.incoming.place.inc) → IsAppHeard a packet heard x after
+  unfolding heard_near
+  app_heard fresh peer = record {
+    near = heard_near;
+    boots = heard_boots fresh peer;
+    only = heard_only;
+    within = heard_within;
+    hears = heard_alike;
+  }
 
 -- the number of an application that sends
 pub app_number : (x : Packet) → IsFormed x → x.from.role ≡ AsApp → x.from.number < most_machines

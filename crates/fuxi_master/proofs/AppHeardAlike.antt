@@ -30,7 +30,7 @@ module _ (x : CoreRecord) (a : ℕ) (old new : App) (packet : Packet) (heard : H
   abbrev after : CoreRecord
   after = record x { apps = set x.apps a (Some new) }
 
-  heard_side : Hears empty_tally patched_grants (IsTally greatest_grant) tally_of tally_of new heard r.state.epoch side
+  pub heard_side : Hears empty_tally patched_grants (IsTally greatest_grant) tally_of tally_of new heard r.state.epoch side
   heard_side = hears (master_party r.state) (r.sides (app_id a)) (subst (λ n. IsApp old n (r.sides (app_id a))) (sym h.stands.epoch) (h.stands.apps a old at)) to
 
   -- what holds of the new end and of each other one

@@ -54,7 +54,7 @@ pub record SameParts (M N : Master) : Type 0 where
   pub reported : N.reported ≡ M.reported
 
 -- a new boot: what is known of it is forgotten
-met_parts : (fresh : Bool) (M : Master) (a : ℕ) → SameParts M (meet_app fresh M a)
+pub met_parts : (fresh : Bool) (M : Master) (a : ℕ) → SameParts M (meet_app fresh M a)
 met_parts true M a = record { epoch = refl; jobs = refl; bans = refl; serving = refl; reported = refl }
 met_parts false M a = record { epoch = refl; jobs = refl; bans = refl; serving = refl; reported = refl }
 
@@ -70,7 +70,7 @@ credited_met : (fresh : Bool) (M : Master) (a b : ℕ) → credited_of (meet_app
 credited_met true M a b = put_at a b [] [] M.credited
 credited_met false M a b = refl
 
-demand_met : (fresh : Bool) (M : Master) (a b : ℕ) → demand_of (meet_app fresh M a) b ≡ cond (fresh && nat_eq a b) nothing (demand_of M b)
+pub demand_met : (fresh : Bool) (M : Master) (a b : ℕ) → demand_of (meet_app fresh M a) b ≡ cond (fresh && nat_eq a b) nothing (demand_of M b)
 demand_met true M a b = put_at a b nothing nothing M.demands
 demand_met false M a b = refl
 

@@ -15,6 +15,10 @@ pub mod ReportAdopted
 pub mod NewlyCredited
 pub mod Told
 pub mod Ordered
+pub mod PeersSides
+pub mod ChangedTallies
+pub mod ToldAsHeardLemmas
+pub mod AsksOtherwise
 pub mod StepEndsLemmas
 pub mod AgentHeard
 pub mod AppHeard

@@ -10,16 +10,16 @@ use Rattle.fuxi_terms.specs.Jobs.{KnownJob, job_of, is_known, job_numbers}
 use Rattle.fuxi_terms.specs.Lists.{below}
 use Rattle.fuxi_terms.specs.Numbers.{has_number}
 use Rattle.fuxi_terms.specs.declared.answers.LedgerFault.{LedgerFault}
-use Rattle.fuxi_terms.proofs.Booleans.{both_true, number_is, eq_turned, or_left, or_right}
+use Rattle.fuxi_terms.proofs.Booleans.{eq_turned, or_left, or_right}
 use Rattle.fuxi_terms.proofs.Lists.{all_at}
 use Rattle.full_sync.specs.Turns.{Endpoint}
-use Rattle.written_net.specs.Net.{Id, same_id}
+use Rattle.written_net.specs.Net.{Id}
 use Rattle.written_net.specs.Ledgers.{Ledger}
 use Rattle.written_net.specs.Channels.{agent_id, app_id}
 use Rattle.written_net.specs.Sides.{Side, new_side, resynced_side}
 use Rattle.written_roles.specs.Masters.{credited_of}
 use Rattle.written_roles.specs.MasterSteps.{peers, is_one_of}
-use Rattle.written_roles.specs.MasterRoles.{MasterRole, set_side, resync_alone, master_resynced}
+use Rattle.written_roles.specs.MasterRoles.{MasterRole, resync_alone, master_resynced}
 use Rattle.core_side.specs.CoreSides.{IsSide}
 use Rattle.grant_table.specs.GrantTables.{as_known}
 use Rattle.broadcast.specs.Projections.{row_of}
@@ -28,27 +28,9 @@ use Rattle.fuxi_master.specs.Cores.{CoreRecord, IsDown, IsApp, IsCore, IsKept, I
 use Rattle.fuxi_master.specs.Resyncs.{agent_forgotten, app_forgotten}
 use Rattle.fuxi_master.proofs.EndsOfChannels.{stands_at_ends}
 use Rattle.fuxi_master.proofs.Indexed.{all_from}
+use Rattle.fuxi_master.proofs.PeersSides.{resynced_at}
+use Rattle.fuxi_master.proofs.ToldAsHeardLemmas.{told_resynced}
 use Rattle.fuxi_terms.proofs.NumbersLemmas.{with_is}
-
--- A peer's side is resynced once
-pub same_peer : (a q : Id) → same_id a q ≡ true → a ≡ q
-same_peer a q e =
-    let b = both_true (nat_eq a.role q.role) (nat_eq a.number q.number) e in
-    λ i. record { role = number_is a.role q.role b.0 i; number = number_is a.number q.number b.1 i }
-
-pub resynced_at : (qs : List Id) (sides : Id → Side) (q : Id) → resync_alone sides qs q ≡ cond (is_one_of q qs) (resynced_side (sides q)) (sides q)
-resynced_at [] sides q = refl
-resynced_at (a ∷ qs) sides q =
-    resynced_at qs (set_side sides a (resynced_side (sides a))) q
-    ∙ elim (same_id a q) as (λ b. same_id a q ≡ b → cond (is_one_of q qs) (resynced_side (elim b as (λ _. Side) [ true ↦ resynced_side (sides a) | false ↦ sides q ])) (elim b as (λ _. Side) [ true ↦ resynced_side (sides a) | false ↦ sides q ])
-    ≡ cond (b || is_one_of q qs) (resynced_side (sides q)) (sides q)) [
-      | true ↦ λ e. twice (is_one_of q qs) (resynced_side (sides a)) ∙ ap (λ p. resynced_side (sides p)) (same_peer a q e)
-      | false ↦ λ _. refl
-    ] refl
-  where
-    twice : (b : Bool) (e : Side) → cond b (resynced_side (resynced_side (sides a))) (resynced_side (sides a)) ≡ resynced_side (sides a)
-    twice true e = refl
-    twice false e = refl
 
 -- Who is among the peers
 agent_listed : (m n : ℕ) → m < n → is_one_of (agent_id m) (map agent_id (below n)) ≡ true
@@ -170,6 +152,7 @@ module _ (x : CoreRecord) where
       known = app_was (λ a (d : App). false ≡ false → d.outgoing.present.head ≡ d.incoming.place.inc) x.apps core.boots.known;
       unknown = λ a d there e. cc;
     };
+    told = told_resynced core.near.role core.told;
   }
 
   pub within_forgotten : (n : ℕ) → IsWithin n x → IsWithin n forgotten

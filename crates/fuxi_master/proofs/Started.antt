@@ -35,6 +35,7 @@ use Rattle.fuxi_master.proofs.AllotsAlike.{allots_alike}
 use Rattle.fuxi_master.proofs.Readied.{lined_again, listed}
 use Rattle.fuxi_master.proofs.StartedJobs.{all_records, same_numbers, no_jobs}
 use Rattle.fuxi_master.proofs.StartedSides.{AreDownsStarted}
+use Rattle.fuxi_master.proofs.ToldAsHeardLemmas.{told_first}
 
 -- ---- no machine is reported, and there is one
 pub some_machine : (c : ClusterRecord) → IsTrue (is_valid_cluster c) → 0 < length c.machines
@@ -206,6 +207,7 @@ module _ (law : (c : ClusterRecord) (sides : Id → Side) (M : Master) (forced :
         known = λ a d e _. ap (λ (t : TallyRecord). t.head) (slots.each a d e).present ∙ sym (slots.each a d e).place;
         unknown = λ a d e t. cc;
       };
+      told = told_first c (first_master epoch known.jobs known.bans) (map app_id (job_numbers known.jobs)) positive;
     }
 
 pub started_within : (c : ClusterRecord) (epoch : ℕ) (known : Knowledge) (x y : AllotmentRecord) → AreAdmitted known.jobs 256 x y → (agents : List Down) → AreDownsStarted epoch (length c.machines) agents

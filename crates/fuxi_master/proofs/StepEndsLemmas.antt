@@ -28,6 +28,7 @@ use Rattle.fuxi_master.specs.Steps.{IsMid, HasRole, StandsMid, forced_by}
 use Rattle.fuxi_terms.proofs.NumbersLemmas.{among}
 use Rattle.fuxi_master.proofs.Projected.{units_alike}
 use Rattle.fuxi_master.proofs.Readied.{ready_again}
+use Rattle.fuxi_master.proofs.ToldAsHeardLemmas.{told_ends}
 
 module _ (x y : CoreRecord) (news : News) (readied : IsCoreReadied x y) where
   z_table : y.allotment.table ≡ record x.allotment.table { entries = y.allotment.table.entries }
@@ -144,6 +145,7 @@ module _ (first : (c : ClusterRecord) (M : Master) (s : Spot) → first_placeabl
       stands = ended_stands has.role has.stands;
     };
     boots = record { known = λ a d e _. shown.boots a d e; unknown = λ a d e t. cc };
+    told = told_ends (λ _. false) has.role (forced_by news) has.told;
   }
 
   pub ended_within : (n : ℕ) → IsWithinSoon n x → IsWithin (n + 1) v

@@ -26,9 +26,10 @@ use Rattle.core_side.specs.Parcels.{packet_of, parcel_is}
 use Rattle.broadcast.specs.declared.grants.News.{News}
 use Rattle.broadcast.specs.AllShown.{Down}
 use Rattle.fuxi_master.specs.Cores.{CoreRecord, IsNear, IsCore, HasBoots, IsWithin, IsWithinSoon, StandsFor}
+use Rattle.fuxi_master.specs.ToldAsHeard.{IsToldAsHeard, IsHeardOnly}
 use Rattle.fuxi_master.specs.Heard.{heard_of, with_heard, HearsAgent, HearsApp, Changes, IsNews, adopting, adopting_role, demanding}
 use Rattle.fuxi_master.specs.Steps.{HasRole, EndsAlike, HearsRole, agent_named, app_named, forced_by}
-use Rattle.fuxi_master.proofs.ResyncsLemmas.{same_peer}
+use Rattle.fuxi_master.proofs.PeersSides.{same_peer}
 use Rattle.fuxi_master.proofs.Quiet.{quiet_ends}
 
 -- bounds grow
@@ -43,8 +44,8 @@ pub soon : (n : ℕ) (x : CoreRecord) → IsWithin n x → IsWithinSoon n x
 soon n x w = record { agents = w.agents; apps = w.apps; turns = let t = w.turns in omega (arith, t) }
 
 -- in the middle of a step there is such a master by itself
-pub has_role : (news : News) (to : MasterRole → MasterRole) (x y : CoreRecord) → IsNear x → Changes news to x y → HasRole news y
-has_role news to x y near changes = record { role = to near.role; stands = changes.stands near.role near.stands }
+pub has_role : (news : News) (to : MasterRole → MasterRole) (x y : CoreRecord) (near : IsNear x) → Changes news to x y → IsToldAsHeard (λ _. false) (to near.role) → HasRole news y
+has_role news to x y near changes told = record { role = to near.role; stands = changes.stands near.role near.stands; told = told }
 
 -- a line that is up to date plays no part at the end
 pub ends_lined : (c : ClusterRecord) (sides : Id → Side) (M : Master) (forced : List Id) → line_up (line_up M) ≡ line_up M → ends_alone c sides (line_up M) forced ≡ ends_alone c sides M forced
@@ -155,18 +156,19 @@ module _ (law : (c : ClusterRecord) (sides : Id → Side) (M : Master) (forced :
       )
 
   -- an application that is known by the boot that it had
-  pub app_quiet_core : (x : CoreRecord) → IsNear x → (f : Bool) (a : ℕ) → HasBoots (λ b. f && nat_eq b a) x → f ≡ false → IsCore x
-  app_quiet_core x near f a boots off = record {
+  pub app_quiet_core : (x : CoreRecord) (near : IsNear x) (f t : Bool) (a : ℕ) → HasBoots (λ b. f && nat_eq b a) x → IsHeardOnly a f t near.role → f ≡ false → t ≡ false → IsCore x
+  app_quiet_core x near f t a boots only off untaken = record {
     near = near;
     boots = record {
       known = λ b d e _. boots.known b d e (ap (λ t. t && nat_eq b a) off);
       unknown = λ b d e t. cc;
     };
+    told = record { told = λ b _ live head. only.others.told b (λ i. (off i || untaken i) && nat_eq b a) live head };
   }
 
   -- an application's packet that changes nothing of it
-  pub app_quiet : (x : CoreRecord) → IsNear x → (a : ℕ) (packet : Packet) (heard : Heard) (r : MasterRole) → HearsApp a packet heard x r → HasBoots (λ b. heard.fresh && nat_eq b a) x → heard.fresh ≡ false → is_taken heard.what ≡ false → (packet_of packet).from.id ≡ app_id a → talks r.cluster r.state (app_id a) ≡ true → HearsRole packet x heard r
-  app_quiet x near a packet heard r ha boots old kept from talk =
+  pub app_quiet : (x : CoreRecord) (near : IsNear x) (a : ℕ) (packet : Packet) (heard : Heard) (r : MasterRole) → HearsApp a packet heard x r → HasBoots (λ b. heard.fresh && nat_eq b a) x → IsHeardOnly a heard.fresh (is_taken heard.what) near.role → heard.fresh ≡ false → is_taken heard.what ≡ false → (packet_of packet).from.id ≡ app_id a → talks r.cluster r.state (app_id a) ≡ true → HearsRole packet x heard r
+  app_quiet x near a packet heard r ha boots only old kept from talk =
       let c = r.cluster in
       let M = r.state in
       let h = heard_of r (app_id a) packet in
@@ -175,7 +177,7 @@ module _ (law : (c : ClusterRecord) (sides : Id → Side) (M : Master) (forced :
       let taken : is_taken h.what ≡ false = ap is_taken (sym ha.says) ∙ kept in
       let state : told_of M h.fresh (is_taken h.what) (app_id a) l ≡ M = (λ i. told_of M (fresh i) (taken i) (app_id a) l) in
       hears_from x packet heard r (told_by_peer r (app_id a) packet) (from_peer packet r (app_id a) from talk)
-      (subst (StandsFor x) (λ i. ends_alone c (set_side r.sides (app_id a) h.side) (sym state i) []) (quiet_ends law x (app_quiet_core x near heard.fresh a boots old) (with_heard r (app_id a) h) ha.role), ha.fresh, ha.says)
+      (subst (StandsFor x) (λ i. ends_alone c (set_side r.sides (app_id a) h.side) (sym state i) []) (quiet_ends law x (app_quiet_core x near heard.fresh (is_taken heard.what) a boots only old kept) (with_heard r (app_id a) h) ha.role), ha.fresh, ha.says)
 
   -- one that does
   pub app_changed : (x y v : CoreRecord) (a : ℕ) (packet : Packet) (heard : Heard) (taken : Bool) (news : News) (r : MasterRole) → HearsApp a packet heard x r → taken ≡ is_taken heard.what → (packet_of packet).from.id ≡ app_id a → talks r.cluster r.state (app_id a) ≡ true

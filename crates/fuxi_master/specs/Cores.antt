@@ -31,6 +31,7 @@ use Rattle.allotment.specs.PlacingReads.{record_of}
 use Rattle.allotment.specs.Allotted.{AllotmentRecord, Allots, AllWait}
 use Rattle.broadcast.specs.Projections.{row_of}
 use Rattle.broadcast.specs.AllShown.{Down, App, ShowsJob, credited_in}
+use Rattle.fuxi_master.specs.ToldAsHeard.{IsToldAsHeard}
 
 -- its epoch, what it knows of jobs and bans, whether it serves, the machines that are reported, the grants with their placer, and its ends
 -- of the channels: with each agent by its machine, and with the application of each known job by the job's number
@@ -134,6 +135,7 @@ pub record HasBoots (new : ℕ → Bool) (x : CoreRecord) : Type 0 where
 pub record IsCore (x : CoreRecord) : Type 0 where
   pub near : IsNear x
   pub boots : HasBoots (λ _. false) x
+  pub told : IsToldAsHeard (λ _. false) near.role
 
 pub record IsMaster (m : MasterRecord) : Type 0 where
   pub core : IsCore m.core

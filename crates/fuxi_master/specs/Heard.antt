@@ -8,6 +8,7 @@ use Rattle.fuxi_terms.specs.Counts.{count}
 use Rattle.fuxi_terms.specs.Keys.{key_cmp}
 use Rattle.fuxi_terms.specs.Numbers.{has_number, with_number}
 use Rattle.fuxi_terms.specs.Rows.{row_total}
+use Rattle.fuxi_terms.specs.Tallies.{ChangeRecord}
 use Rattle.fuxi_terms.specs.TallyKeys.{credited_key, credited_what, greatest_grant, is_back}
 use Rattle.fuxi_terms.specs.Vectors.{fits}
 use Rattle.party_ledgers.specs.declared.packets.Heard.{Heard}
@@ -37,6 +38,7 @@ use Rattle.fuxi_terms.specs.Jobs.{unit_count}
 use Rattle.grant_table.specs.GrantTables.{as_known}
 use Rattle.fuxi_master.specs.Cores.{CoreRecord, StandsFor, IsNear, HasBoots, IsCore, IsWithin, IsWithinSoon}
 use Rattle.fuxi_master.specs.Steps.{IsMid, StandsMid}
+use Rattle.fuxi_master.specs.ToldAsHeard.{IsHeardOnly, AsksButAt}
 
 -- what is tested of a report: what is known, what the machine has, the epoch, whether the machine is reported and banned
 pub record ReportTest : Type 0 where
@@ -115,8 +117,13 @@ pub record HearsApp (a : ℕ) (x : Packet) (heard : Heard) (new : CoreRecord) (r
 pub record IsAppHeard (a : ℕ) (x : Packet) (heard : Heard) (old new : CoreRecord) : Type 0 where
   pub near : IsNear new
   pub boots : HasBoots (λ b. heard.fresh && nat_eq b a) new
+  pub only : IsHeardOnly a heard.fresh (is_taken heard.what) near.role
   pub within : (n : ℕ) → IsWithin n old → IsWithin n new
   pub hears : (r : MasterRole) → StandsFor old r → HearsApp a x heard new r
+
+-- a change that was taken of a demand that counted: it names the keys at which the demand, where it counts still, asks otherwise than before
+pub record ChangesAsked (a : ℕ) (fresh taken : Bool) (change : ChangeRecord) (x : CoreRecord) : Type 0 where
+  pub asks : (d : App) → slice_get x.apps a ≡ Some (Some d) → fresh ≡ false → taken ≡ true → d.incoming.received.head ≡ x.epoch → AsksButAt change.entries a d.incoming.received.entries x.allotment
 
 -- what a demand gives back that is not credited yet, of units and machines that are there
 abbrev pub is_new_back : ClusterRecord → ℕ → List (Key × ℕ) → Key × ℕ → Bool

@@ -1,3 +1,4 @@
+pub mod ToldAsHeard
 pub mod Cores
 pub mod Steps
 pub mod Seen

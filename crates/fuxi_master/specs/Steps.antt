@@ -31,6 +31,7 @@ use Rattle.fuxi_master.specs.declared.event.Outcome.TheVariants.{Done, Refused, 
 use Rattle.fuxi_master.specs.declared.event.MasterRefusal.{MasterRefusal}
 use Rattle.fuxi_master.specs.declared.event.MasterRefusal.TheVariants.{AlreadyServing, NotServing, NothingToPreempt}
 use Rattle.fuxi_master.specs.Cores.{CoreRecord, IsKept, IsCore, StandsWith, StandsFor, IsWithin}
+use Rattle.fuxi_master.specs.ToldAsHeard.{IsToldAsHeard}
 
 abbrev pub told_by : MasterEvent → MasterTold
 told_by (PacketComes x) = Comes (parcel_is x)
@@ -112,6 +113,7 @@ StandsMid news x r = StandsWith (credited_after news) x r
 pub record HasRole (news : News) (x : CoreRecord) : Type 0 where
   pub role : MasterRole
   pub stands : StandsMid news x role
+  pub told : IsToldAsHeard (λ _. false) role
 
 -- and at its end for the master that has ended it
 abbrev pub EndsAlike : News → CoreRecord → CoreRecord → Type 0

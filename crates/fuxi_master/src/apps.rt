@@ -1,16 +1,23 @@
 //! What a master hears of applications.
 
-ghost use Rattle.std.specs.Prelude.{◌≡◌, ◌<◌, ◌&&◌, ◌||◌, not, nat_eq, true, Some, None, IfOk, OnOk};
+ghost use Rattle.std.specs.Prelude.{◌≡◌, ◌<◌, ◌&&◌, ◌||◌, not, nat_eq, nat_lt, true, false, Some, None, IfOk, IfSome, OnOk, if◌then◌else◌};
 ghost use Rattle.fuxi_terms.specs.Counts.{AreCounts};
 ghost use Rattle.fuxi_terms.specs.Keys.{key_cmp};
-ghost use Rattle.fuxi_terms.specs.TallyKeys.{credited_key, greatest_demand};
+ghost use Rattle.fuxi_terms.specs.Tallies.{empty_tally};
+ghost use Rattle.fuxi_terms.specs.TallyKeys.{credited_key, greatest_demand, greatest_grant};
 ghost use Rattle.fuxi_terms.specs.Jobs.{has_ended, is_known, unit_count};
 ghost use Rattle.grant_table.specs.GrantTables.{as_known};
 ghost use Rattle.allotment.specs.Allotted.{AllWait};
+ghost use Rattle.ledger_law.specs.Shapes.{IsTally};
 ghost use Rattle.party_ledgers.specs.Packets.{IsFormed};
+ghost use Rattle.party_ledgers.specs.declared.packets.Body.TheVariants.{DemandDelta};
+ghost use Rattle.written_net.specs.Net.{is_taken};
+ghost use Rattle.core_side.specs.Bodies.{tally_of};
+ghost use Rattle.core_side.specs.CoreSides.{HearsAlike};
 ghost use Rattle.schedule_unit.specs.declared.party.Role.TheVariants.{Master as AsMaster, App as AsApp};
-ghost use Rattle.fuxi_master.specs.Cores.{IsCore, IsNear, HasBoots};
-ghost use Rattle.fuxi_master.specs.Heard.{IsAppHeard, Changes, IsCredited, IsDemanded, demanding, is_new_back, newly_credited};
+ghost use Rattle.fuxi_master.specs.Cores.{IsCore, IsNear, HasBoots, patched_grants};
+ghost use Rattle.fuxi_master.specs.ToldAsHeard.{AsksButAt, IsAsked};
+ghost use Rattle.fuxi_master.specs.Heard.{IsAppHeard, ChangesAsked, Changes, IsCredited, IsDemanded, demanding, is_new_back, newly_credited};
 ghost use Rattle.fuxi_master.specs.Seen.{core_of};
 
 use crate::state::Core;
@@ -21,14 +28,18 @@ use core_side::{NoLimit, Side};
 use fuxi_terms::tally_keys::{BACK, CREDITED};
 use fuxi_terms::{Key, OutOfMemory};
 use hard_state::Known;
-use ledger_law::Ledger;
-use party_ledgers::{Demand, Grants, Heard, Kind, Packet, What};
+use ledger_law::{Change, Ledger};
+use party_ledgers::{Body, Demand, Grants, Heard, Kind, Packet};
 use schedule_unit::AppNo;
 use std::alloc::Global;
 
 impl Core {
-    // Hears a packet of the application of a known job.
-    pub(crate) fn hear_app(&mut self, alloc: Global, packet: Packet) -> Result<Heard, OutOfMemory>
+    // Hears a packet of the application of a known job. A change of a demand that counted is handed back.
+    pub(crate) fn hear_app(
+        &mut self,
+        alloc: Global,
+        packet: Packet,
+    ) -> Result<(Heard, Option<Change>), OutOfMemory>
         requires core { IsCore (core_of self.old) }
         requires formed { IsFormed packet }
         requires no_end { packet.kind ≡ Kind.End → ⊥ }
@@ -36,13 +47,16 @@ impl Core {
         requires known { is_known self.old.known.jobs packet.from.number ≡ true }
         requires to { packet.to.role ≡ AsMaster }
         requires zero { packet.to.number ≡ 0 }
-        ensures { IfOk result (λ heard. IsAppHeard packet.from.number packet heard (core_of self.old) (core_of self.new)) }
+        ensures heard { IfOk result (λ told. IsAppHeard packet.from.number packet told.0 (core_of self.old) (core_of self.new)) }
+        ensures asks { IfOk result (λ told. IfSome told.1 (λ change. ChangesAsked packet.from.number told.0.fresh (is_taken told.0.what) change (core_of self.new))) }
     {
-        let heard = match &mut self.apps[packet.from.number as usize] {
-            Some(side) => side.hear_moved(alloc, packet, &NoLimit, &mut ())?,
-            None => unreachable!(),
+        let app = AppNo(packet.from.number);
+        let Some(side) = &mut self.apps[app.0 as usize] else {
+            unreachable!()
         };
-        Ok(heard)
+        let counted = counts(true, side, self.epoch, &self.known, app);
+        let told = hear(alloc, side, packet, counted)?;
+        Ok(told)
     }
 
     // Takes what came of an application that is new, or whose demand was taken.
@@ -52,12 +66,14 @@ impl Core {
         app: AppNo,
         fresh: bool,
         taken: bool,
+        change: &Option<Change>,
     ) -> Result<News, OutOfMemory>
         requires near { IsNear (core_of self.old) }
         requires boots { HasBoots (λ a. fresh && nat_eq a app.0) (core_of self.old) }
         requires known { is_known self.old.known.jobs app.0 ≡ true }
         requires small { app.0 < 256 }
         requires told { (fresh || taken) ≡ true }
+        requires asks { IfSome change.now (λ change. ChangesAsked app.0 fresh taken change (core_of self.old)) }
         ensures none { IfOk result (λ news. (news.reported ≡ None) × (news.admitted ≡ None)) }
         ensures changes { IfOk result (λ news. Changes news (λ r. demanding fresh taken r app.0) (core_of self.old) (core_of self.new)) }
     {
@@ -67,7 +83,7 @@ impl Core {
         let live = counts(taken, side, self.epoch, &self.known, app);
         let _sound = self.allotment.table().cluster();
         let _units = self.allotment.table().units(app);
-        let credited = demanded(alloc, &mut self.allotment, app, side, fresh, live)?;
+        let credited = demanded(alloc, &mut self.allotment, app, side, fresh, live, change)?;
         Ok(News {
             reported: None,
             admitted: None,
@@ -75,6 +91,41 @@ impl Core {
             job: Some(app),
             credited,
         })
+    }
+}
+
+// Hears a packet of an application. Where what was received of it counts, a change that it brings is handed back.
+fn hear(
+    alloc: Global,
+    side: &mut Side<Grants, Demand>,
+    packet: Packet,
+    counted: bool,
+) -> Result<(Heard, Option<Change>), OutOfMemory>
+    requires formed { IsFormed packet }
+    requires no_end { packet.kind ≡ Kind.End → ⊥ }
+    requires from { packet.from.role ≡ AsApp }
+    requires to { packet.to.role ≡ AsMaster }
+    ensures hears { IfOk result (λ told. HearsAlike empty_tally patched_grants (IsTally greatest_grant) tally_of tally_of (λ l. None) packet side.old side.new told.0) }
+    ensures fresh { IfOk result (λ told. told.0.fresh ≡ nat_lt side.old.incoming.place.inc packet.from.inc) }
+    ensures peer { side.new.incoming.place.inc ≡ (if nat_lt side.old.incoming.place.inc packet.from.inc then packet.from.inc else side.old.incoming.place.inc) }
+    ensures outgoing { side.new.outgoing ≡ side.old.outgoing }
+    ensures change { IfOk result (λ told. IfSome told.1 (λ change. (counted ≡ true) × (packet.body ≡ DemandDelta change))) }
+{
+    if !counted || packet.kind != Kind::Delta {
+        let heard = side.hear_moved(alloc, packet, &NoLimit, &mut ())?;
+        return Ok((heard, None));
+    }
+    let heard = side.hear(alloc, &packet, &NoLimit, &mut ())?;
+    Ok((heard, change_in(packet)))
+}
+
+// The change of a demand that a packet brings.
+fn change_in(packet: Packet) -> Option<Change>
+    ensures { IfSome result (λ change. packet.body ≡ DemandDelta change) }
+{
+    match packet.body {
+        Body::DemandDelta(change) => Some(change),
+        _ => None,
     }
 }
 
@@ -126,6 +177,20 @@ fn newly_credited(
     Ok(numbers)
 }
 
+// The demand of a job is now this one. A change of what it was names the keys at which it asks otherwise.
+fn asked(allotment: &mut Allotment, app: AppNo, demand: &Demand, change: &Option<Change>)
+    requires units { 0 < unit_count (as_known allotment.old.table.jobs) app.0 }
+    requires told { IfSome change.now (λ change. AsksButAt change.entries app.0 demand.now.entries allotment.old) }
+    ensures { IsAsked app.0 demand.now.entries allotment.old allotment.new }
+{
+    let _placer = allotment.placer();
+    if let Some(change) = change {
+        allotment.asked_at(app, demand, change.entries());
+        return;
+    }
+    allotment.asked(app, demand);
+}
+
 // Of what a demand gives back the table loses what is not credited yet, and the demand is then the job's. What is credited now is told.
 fn credited(
     alloc: Global,
@@ -133,9 +198,11 @@ fn credited(
     app: AppNo,
     demand: &Demand,
     given: &Grants,
+    change: &Option<Change>,
 ) -> Result<Vec<(Key, u64)>, OutOfMemory>
     requires waits { AllWait allotment.old }
     requires units { 0 < unit_count (as_known allotment.old.table.jobs) app.0 }
+    requires told { IfSome change.now (λ change. AsksButAt change.entries app.0 demand.now.entries allotment.old) }
     ensures credits { OnOk result (IsCredited app.0 demand.now.entries given.now.entries allotment.old allotment.new) }
     ensures counts { OnOk result (AreCounts key_cmp greatest_demand demand.now.entries) }
     ensures numbers { IfOk result (λ numbers. numbers.items ≡ newly_credited allotment.old.table.cluster (unit_count (as_known allotment.old.table.jobs) app.0) given.now.entries demand.now.entries) }
@@ -144,7 +211,7 @@ fn credited(
     let cluster = allotment.table().cluster();
     let numbers = newly_credited(alloc, demand, given, units, cluster)?;
     allotment.credit(app, demand, given)?;
-    allotment.asked(app, demand);
+    asked(allotment, app, demand, change);
     Ok(numbers)
 }
 
@@ -157,9 +224,11 @@ fn demanded(
     side: &Side<Grants, Demand>,
     fresh: bool,
     live: bool,
+    change: &Option<Change>,
 ) -> Result<Vec<(Key, u64)>, OutOfMemory>
     requires waits { AllWait allotment.old }
     requires units { 0 < unit_count (as_known allotment.old.table.jobs) app.0 }
+    requires told { IfSome change.now (λ change. fresh ≡ false → live ≡ true → AsksButAt change.entries app.0 side.now.incoming.received.entries allotment.old) }
     ensures { IfOk result (λ numbers. IsDemanded app.0 fresh live side.now allotment.old allotment.new numbers.items) }
 {
     let _entries = side.got().entries();
@@ -168,9 +237,10 @@ fn demanded(
         return Ok(Vec::new(alloc));
     }
     if fresh {
-        let numbers = credited(alloc, allotment, app, side.got(), &Grants::empty(alloc))?;
+        let given = Grants::empty(alloc);
+        let numbers = credited(alloc, allotment, app, side.got(), &given, &None)?;
         return Ok(numbers);
     }
-    let numbers = credited(alloc, allotment, app, side.got(), side.sent())?;
+    let numbers = credited(alloc, allotment, app, side.got(), side.sent(), change)?;
     Ok(numbers)
 }

@@ -182,12 +182,12 @@ impl Core {
     {
         written_roles::law::step_ends();
         let app = AppNo(packet.from.number);
-        let heard = self.hear_app(alloc, packet)?;
+        let (heard, change) = self.hear_app(alloc, packet)?;
         let taken = is_taken(&heard);
         if !heard.fresh && !taken {
             return Ok(heard);
         }
-        let news = self.take_demand(alloc, app, heard.fresh, taken)?;
+        let news = self.take_demand(alloc, app, heard.fresh, taken, &change)?;
         self.finished(alloc, &news, steps)?;
         Ok(heard)
     }

@@ -1,6 +1,6 @@
 -- A unit that leaves one place after another.
-use Rattle.std.proofs.Common.{◌≡◌, ℕ, ◌+◌, ◌<◌, false, [], Option, Some, None, is_some, length, get_or, set, refl, sym, ap, subst, ◌∙◌, inl, inr, arith}
-use Rattle.std.proofs.lemmas.Bool.{cases_eq}
+use Rattle.std.proofs.Common.{◌≡◌, ℕ, ◌+◌, ◌<◌, ◌≤◌, false, [], Option, Some, None, is_some, length, get_or, set, refl, sym, ap, subst, ◌∙◌, inl, inr, arith}
+use Rattle.std.proofs.lemmas.Bool.{cases_eq, cases_lt}
 use Rattle.std.proofs.lemmas.List.{get_or-set_other, length-set}
 use Rattle.slot_pool.specs.declared.pool.Slot.{Slot}
 use Rattle.wait_queue.specs.declared.node.Entry.{Entry}
@@ -35,6 +35,20 @@ left_more at0 at1 at2 olds slots news e k inside l t =
       others = λ m d. ap (λ (s : Slots). get_or s m []) t.noted ∙ get_or-set_other slots n m (set (get_or slots n []) k t.slot) [] d ∙ l.others m d;
       entries = λ m j d. t.others m j (λ g _. d g) ∙ l.entries m j d;
     }
+
+-- places are passed at which it has no slot
+pub left_passed : (at0 at1 : Slot → Option Node) (olds slots read : Slots) (e : Entry) (n k m : ℕ) → n ≡ number_of e → read ≡ slots → ((j : ℕ) → k ≤ j → j < m → slot_in read n j ≡ None) → Left at0 olds at1 slots e k → Left at0 olds at1 slots e m
+left_passed at0 at1 olds slots read e n k m number same none l = record {
+  count = l.count;
+  width = l.width;
+  gone = λ j h. elim (cases_lt j k) as (λ _. slot_in slots (number_of e) j ≡ None) [
+    | inl lt ↦ l.gone j lt
+    | inr ge ↦ (λ i. slot_in (sym same i) (sym number i) j) ∙ none j ge h
+  ];
+  own = l.own;
+  others = l.others;
+  entries = l.entries;
+}
 
 pub fits_on : (at0 at1 : Slot → Option Node) (olds slots : Slots) (e : Entry) (k count now place : ℕ) → now ≡ count → EntryFits at0 count olds e place → Left at0 olds at1 slots e k → EntryFits at1 now slots e place
 fits_on at0 at1 olds slots e k count now place same_count f l = record {

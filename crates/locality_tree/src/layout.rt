@@ -45,6 +45,24 @@ fn slot_in(slots: &[UnitSlots], number: usize, place: usize) -> Option<Slot>
     places[place]
 }
 
+/// The first place from one on at which a unit has a slot, and the end where it has none before it.
+fn first_slot(slots: &[UnitSlots], number: usize, from: usize, end: usize) -> usize
+    requires order { from ≤ end }
+    requires there { from < length (get_or (slots_of slots.now) number []) }
+    requires inside { end ≤ length (get_or (slots_of slots.now) number []) }
+    ensures least { from ≤ result }
+    ensures inside { result ≤ end }
+    ensures between { (k : ℕ) → from ≤ k → k < result → slot_in (slots_of slots.now) number k ≡ None }
+{
+    let places = &slots[number];
+    for place in from..end {
+        if places[place].is_some() {
+            return place;
+        }
+    }
+    end
+}
+
 /// Notes the slot of a unit at a place.
 fn note_slot(slots: &mut Vec<UnitSlots>, number: usize, place: usize, slot: Option<Slot>)
     requires { place < length (get_or (slots_of slots.old.items) number []) }
@@ -192,8 +210,15 @@ impl Layout {
         ensures count { length self.new.queues.items ≡ length self.old.queues.items }
         ensures left { LeftIn self.old self.new entry.now (length self.old.queues.items) }
     {
-        for place in 0..self.queues.len() {
+        let places = self.queues.len();
+        let mut next = 0;
+        while next < places {
+            let place = first_slot(&self.slots, number_of(entry), next, places);
+            if place >= places {
+                return;
+            }
             self.turn_to(place, entry, false);
+            next = place + 1;
         }
     }
 

@@ -8,6 +8,5 @@ mod number_set;
 mod path;
 mod tree;
 
-pub use number_set::NumberSet;
 pub use path::Path;
 pub use tree::Tree;

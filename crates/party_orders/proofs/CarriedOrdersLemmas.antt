@@ -1,6 +1,6 @@
 -- A command behind its tests: it is written by the hard state, and the master is told.
 use Rattle.std.proofs.Common.{◌≡◌, inl, inr, ⊎_elim, ℕ, Bool, true, false, not, List, [], ◌∷◌, Option, Some, None, Result, Ok, Err, refl, sym, ◌∙◌, ap, subst, arith}
-use Rattle.std.specs.Prelude.{OnOk}
+use Rattle.std.specs.Prelude.{IsOk, OnOk}
 use Rattle.std.proofs.lemmas.Bool.Decides.{nat_tests}
 use Rattle.fuxi_io.specs.Disks.{Told, WhereTold}
 use Rattle.fuxi_terms.proofs.Booleans.{not_false}
@@ -14,9 +14,10 @@ use Rattle.written_roles.specs.HardState.{HardState, HardEvent, Submission, Fini
 use Rattle.written_roles.specs.Masters.{Master}
 use Rattle.written_roles.specs.MasterSteps.{Changed, Commanded, MasterChange, Admits, Ends, Bans, Unbans, Begins, Preempts, change_of, changes, writes, ended_in, banned_in}
 use Rattle.written_roles.specs.MasterRoles.{MasterRole, Done as IsDone, RefusedAs as IsRefusedAs, Told as IsToldChange, changes_as, master_changed, master_steps_alone}
-use Rattle.hard_state.specs.HardFiles.{Kept, IsAtRest, IsBeforeOrAfter, WritesStep}
+use Rattle.hard_state.specs.HardFiles.{Kept, IsAtRest, IsBeforeOrAfter, IsOpeningFault, Refuses, WritesStep}
 use Rattle.hard_state.proofs.Runs.{leaves_more, map_where}
 use Rattle.hard_state.specs.declared.fault.HardFault.{HardFault}
+use Rattle.hard_state.specs.declared.fault.HardFault.TheVariants as fault
 use Rattle.schedule_text.specs.Printing.{as_refusal}
 use Rattle.schedule_text.specs.declared.refusal.Refusal.{Refusal}
 use Rattle.fuxi_master.specs.Cores.{CoreRecord, MasterRecord, StandsFor}
@@ -31,6 +32,7 @@ use Rattle.master_text.specs.PrintedRefusals.{master_refusal}
 use Rattle.party_orders.specs.declared.masters.Halt.{Halt}
 use Rattle.party_orders.specs.OrderedParties.{IsCommand, IsEither, KnowsWritten, LeavesOrder, ObeyedAs, done_by, hard_after, written_for}
 use Rattle.party_orders.specs.CarriedOrders.{CarriesOut, IsTold, carried_out, refusal_in}
+use Rattle.party_orders.proofs.OrderedPartiesLemmas.{commanded_in}
 
 -- A command that is written first: it is never refused by the master
 pub record IsWriting (event : MasterEvent) (v : HardEvent) : Type 0 where
@@ -159,9 +161,6 @@ changed_as r h new (outcome.Sent packets) (Err f) a = let is = a.says in cc
 changed_as r h new (outcome.Heard heard) (Err f) a = let is = a.says in cc
 
 -- Nothing is written, and the master is told
-abbrev commanded_in : MasterRole → Result Commanded WrittenRefusal → Result (MasterRole × HardState) WrittenRefusal
-commanded_in r k = then_do k (λ k. Ok (master_changed r k.change, k.hard))
-
 changes_told : (event : MasterEvent) (core : CoreRecord) (x : MasterChange) (after : MasterRecord × Option Refusal) (r : MasterRole) → told_by event ≡ IsToldChange x → (t : IsTold event core after) → StandsFor core r
     → Answers after.0.core t.outcome (changes_as r (change_of r.cluster r.state x))
 changes_told event core x after r is t s = subst (λ told. Answers after.0.core t.outcome (master_steps_alone r told)) is (t.steps r s)
@@ -188,6 +187,14 @@ module _ (event : MasterEvent) (v : HardEvent) (h : HardState) (core : CoreRecor
   carried_refused : (r : MasterRole) (f : WrittenRefusal) → StandsFor core r → hard_step h e v ≡ Err f → carried_out r h event ≡ Err f
   carried_refused r f s step = ap (commanded_in r) (x.does r.cluster h r.state ∙ ap (λ y. then_do y (λ k. changes r.cluster k r.state x.change)) (ap (λ n. hard_step h n v) (sym (own r s)) ∙ step))
 
+  -- it is not refused where its writing is not
+  pub carried_ok : (r : MasterRole) → StandsFor core r → IsOk (hard_step h e v) → IsOk (carried_out r h event)
+  carried_ok r s ok = by (hard_step h e v) refl ok
+    where
+      by : (res : Result HardState WrittenRefusal) → hard_step h e v ≡ res → IsOk res → IsOk (carried_out r h event)
+      by (Ok k) is ok = subst (λ (y : Result (MasterRole × HardState) WrittenRefusal). IsOk y) (sym (carried_written r k s is)) refl
+      by (Err f) is ok = cc
+
   pub written_obeyed : (k : HardState) → hard_step h e v ≡ Ok k → (after : MasterRecord × Option Refusal) → IsTold event core after → CarriesOut event h k core after
   written_obeyed k step after t r s =
       let a = subst (λ res. Answers after.0.core t.outcome (changes_as r res)) (x.changes r.cluster r.state) (changes_told event core x.change after r x.told t s) in
@@ -198,6 +205,20 @@ module _ (event : MasterEvent) (v : HardEvent) (h : HardState) (core : CoreRecor
   pub refused_obeyed : (new : HardState) (m : MasterRecord) (refusal : Refusal) → m.core ≡ core → new ≡ h → hard_step h e v ≡ Err (as_refusal refusal) → CarriesOut event h new core (m, Some refusal)
   refused_obeyed new m refusal same kept step r s =
       subst (ObeyedAs r h new m.core (Some refusal)) (sym (carried_refused r (as_refusal refusal) s step)) (subst (λ core. StandsFor core r) (sym same) s, kept, refl)
+
+-- a fault of the disk and want of memory come only where the step is not refused
+pub step_wanted : (step : Result HardState WrittenRefusal) (why : HardFault) → Refuses step why → IsOpeningFault why → IsOk step
+step_wanted step (fault.Stale fence) refuses opening = absurd opening
+step_wanted step (fault.Fenced fence) refuses opening = absurd opening
+step_wanted step fault.Known refuses opening = absurd opening
+step_wanted step fault.NoJob refuses opening = absurd opening
+step_wanted step fault.Ended refuses opening = absurd opening
+step_wanted step fault.AlreadyBanned refuses opening = absurd opening
+step_wanted step fault.NotBanned refuses opening = absurd opening
+step_wanted step fault.Full refuses opening = absurd opening
+step_wanted step (fault.NotCheckpoint offset) refuses opening = absurd refuses
+step_wanted step fault.DiskFault refuses opening = refuses
+step_wanted step fault.OutOfMemory refuses opening = refuses
 
 -- What a crash leaves of the file. No call was made
 abbrev Answered : Type 0

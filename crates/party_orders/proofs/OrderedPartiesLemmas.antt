@@ -1,5 +1,6 @@
 -- The first tests of a command, by what they find.
 use Rattle.std.proofs.Common.{◌≡◌, ℕ, ◌<◌, Bool, true, false, not, List, ◌∷◌, length, Some, None, Result, Ok, Err, refl, sym, ◌∙◌, ap, subst, arith}
+use Rattle.std.specs.Prelude.{IsOk}
 use Rattle.std.proofs.lemmas.Bool.Decides.{nat_tests}
 use Rattle.fuxi_terms.specs.Cluster.{ClusterRecord, JobRecord, has_group}
 use Rattle.fuxi_terms.specs.Counts.{then_do}
@@ -10,14 +11,14 @@ use Rattle.schedule_unit.specs.JobFaults.{IsFault, IsMade, job_fault}
 use Rattle.written_roles.specs.Refusals.{Refusal as WrittenRefusal, NoGroup, first_refusal, job_tests, unless_fault}
 use Rattle.written_roles.specs.HardState.{HardState, Submission}
 use Rattle.written_roles.specs.Masters.{Master}
-use Rattle.written_roles.specs.MasterSteps.{MasterCommand, Commanded, Admits, Submits, writes}
+use Rattle.written_roles.specs.MasterSteps.{MasterCommand, Commanded, Admits, Submits, Finishes, BansMachine, UnbansMachine, StartsServing, MakesRoom, writes}
 use Rattle.written_roles.specs.MasterRoles.{MasterRole, master_changed, master_commanded}
 use Rattle.fuxi_master.specs.declared.event.MasterEvent.{MasterEvent}
 use Rattle.fuxi_master.specs.declared.event.MasterEvent.TheVariants.{Admit}
 use Rattle.schedule_text.specs.declared.refusal.Refusal.{Refusal}
 use Rattle.schedule_text.specs.Printing.{as_refusal}
 use Rattle.schedule_text.specs.Asked.{AreTestedAlike, job_named, job_refusal}
-use Rattle.party_orders.specs.OrderedParties.{TestsAs}
+use Rattle.party_orders.specs.OrderedParties.{MayWant, TestsAs, TestsWant, has_writing}
 use Rattle.party_orders.specs.CarriedOrders.{carried_out}
 
 passes : {A : Type 0} (tests : List (Bool × WrittenRefusal)) (r : Result A WrittenRefusal) → first_refusal tests ≡ None → unless_fault tests r ≡ r
@@ -62,3 +63,37 @@ job_tested law c a g resources asks made same there is = λ h M.
 pub commanded_as : (c : ClusterRecord) (h : HardState) (r : MasterRole) (x : MasterCommand) (event : MasterEvent) → c ≡ r.cluster → TestsAs c x (Ok event) → master_commanded r h x ≡ carried_out r h event
 commanded_as c h r x event same tests =
     ap (λ (k : Result Commanded WrittenRefusal). then_do k (λ k. Ok (master_changed r k.change, k.hard))) (subst (λ (c : ClusterRecord). TestsAs c x (Ok event)) same tests h r.state)
+
+-- a command with the hard state that it leaves
+abbrev pub commanded_in : MasterRole → Result Commanded WrittenRefusal → Result (MasterRole × HardState) WrittenRefusal
+commanded_in r k = then_do k (λ k. Ok (master_changed r k.change, k.hard))
+
+-- Want of memory: a submission that is not refused has its group
+first_is : (t : Bool × WrittenRefusal) (ts : List (Bool × WrittenRefusal)) → t.0 ≡ true → first_refusal (t ∷ ts) ≡ Some t.1
+first_is (true, r) ts e = refl
+first_is (false, r) ts e = cc
+
+submitted_there : (r : MasterRole) (h : HardState) (j : JobRecord) → IsOk (master_commanded r h (Submits j)) → has_group r.cluster j.group ≡ true
+submitted_there r h j ok = elim (has_group r.cluster j.group) as (λ t. has_group r.cluster j.group ≡ t → has_group r.cluster j.group ≡ true) [
+  | true ↦ λ e. e
+  | false ↦ λ e.
+      let none = fails (submit_tests_of r.cluster j) (submit_writes r.cluster h r.state j) NoGroup (first_is (not (has_group r.cluster j.group), NoGroup) (job_tests r.cluster.resources j) (ap not e)) in
+      let wrong : false ≡ true = subst (λ (y : Result Commanded WrittenRefusal). IsOk (commanded_in r y)) none ok in
+      cc
+] refl
+
+pub may_want : (r : MasterRole) (h : HardState) (x : MasterCommand) → (has_writing x ≡ true → IsOk (master_commanded r h x)) → MayWant r h x
+may_want r h (Submits j) ok = submitted_there r h j (ok refl)
+may_want r h (Finishes a) ok = ok refl
+may_want r h (BansMachine m) ok = ok refl
+may_want r h (UnbansMachine m) ok = ok refl
+may_want r h StartsServing ok = tt
+may_want r h MakesRoom ok = tt
+
+pub tests_want : (c : ClusterRecord) (r : MasterRole) (h : HardState) (x : MasterCommand) → c ≡ r.cluster → TestsWant c x → MayWant r h x
+tests_want c r h (Submits j) same there = subst (λ (c : ClusterRecord). has_group c j.group ≡ true) same there
+tests_want c r h (Finishes a) same none = absurd none
+tests_want c r h (BansMachine m) same none = absurd none
+tests_want c r h (UnbansMachine m) same none = absurd none
+tests_want c r h StartsServing same none = absurd none
+tests_want c r h MakesRoom same none = absurd none

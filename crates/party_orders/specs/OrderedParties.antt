@@ -1,14 +1,14 @@
 -- What the orders of the code are, and what one makes of an application and of a master by itself, with the hard state.
-use Rattle.std.specs.Prelude.{◌≡◌, ◌⊎◌, ◌<◌, ◌≤◌, ℕ, Bool, true, false, List, Option, Some, None, Result, Ok, Err, OnOk}
+use Rattle.std.specs.Prelude.{◌≡◌, ◌⊎◌, ◌<◌, ◌≤◌, ℕ, Bool, true, false, List, Option, Some, None, Result, Ok, Err, OnOk, IsOk}
 use Rattle.fuxi_io.specs.Disks.{Told, LeavesAlways}
-use Rattle.fuxi_terms.specs.Cluster.{ClusterRecord}
+use Rattle.fuxi_terms.specs.Cluster.{ClusterRecord, has_group}
 use Rattle.fuxi_terms.specs.Limits.{most_jobs, most_machines}
 use Rattle.written_roles.specs.Refusals.{Refusal as WrittenRefusal, NotRunning}
 use Rattle.written_roles.specs.HardState.{HardState, HardEvent, Raise as Raising, Submission, Finishing, Banning, Unbanning}
 use Rattle.written_roles.specs.Masters.{Master}
 use Rattle.written_roles.specs.Apps.{AppRole, AppCommand, Wants, WantsNear, WantsInRack, Avoids, GivesBack}
 use Rattle.written_roles.specs.MasterSteps.{MasterCommand, Submits, Finishes, BansMachine, UnbansMachine, StartsServing, MakesRoom, Commanded, Admits, Ends, Bans, Unbans, Begins, Preempts, changes, writes, command_of}
-use Rattle.written_roles.specs.MasterRoles.{MasterRole}
+use Rattle.written_roles.specs.MasterRoles.{MasterRole, master_commanded}
 use Rattle.written_parties.specs.SeenParties.{Kind, Masters, Agents, Apps}
 use Rattle.schedule_unit.specs.declared.party.Role.{Role}
 use Rattle.schedule_unit.specs.declared.party.Role.TheVariants as role
@@ -171,6 +171,25 @@ ObeyedAs r old new core None (Ok p) = StandsFor core p.0 × (new ≡ p.1)
 ObeyedAs r old new core None (Err f) = ⊥
 ObeyedAs r old new core (Some why) (Ok p) = ⊥
 ObeyedAs r old new core (Some why) (Err f) = StandsFor core r × (new ≡ old) × (f ≡ as_refusal why)
+
+-- What want of memory says of a command: it is not refused, neither by its tests nor by what is written. But a job is made unit by unit while it is tested, and
+-- what nothing is written for the master may refuse by itself
+abbrev pub MayWant : MasterRole → HardState → MasterCommand → Type 0
+MayWant r h (Submits j) = has_group r.cluster j.group ≡ true
+MayWant r h (Finishes a) = IsOk (master_commanded r h (Finishes a))
+MayWant r h (BansMachine m) = IsOk (master_commanded r h (BansMachine m))
+MayWant r h (UnbansMachine m) = IsOk (master_commanded r h (UnbansMachine m))
+MayWant r h StartsServing = Unit {0}
+MayWant r h MakesRoom = Unit {0}
+
+-- of its tests a submission alone wants memory, once its group is there
+abbrev pub TestsWant : ClusterRecord → MasterCommand → Type 0
+TestsWant c (Submits j) = has_group c j.group ≡ true
+TestsWant c (Finishes a) = ⊥
+TestsWant c (BansMachine m) = ⊥
+TestsWant c (UnbansMachine m) = ⊥
+TestsWant c StartsServing = ⊥
+TestsWant c MakesRoom = ⊥
 
 abbrev pub hard_after : HardState → Result (MasterRole × HardState) WrittenRefusal → HardState
 hard_after h (Ok p) = p.1

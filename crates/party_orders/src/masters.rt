@@ -1,16 +1,16 @@
 //! What a master is commanded.
 
-ghost use Rattle.std.specs.Prelude.{◌≡◌, ◌≢◌, ◌+◌, ◌<◌, ◌≤◌, true, false, is_some, Err, IfOk, IfErr, OnOk};
+ghost use Rattle.std.specs.Prelude.{◌≡◌, ◌≢◌, ◌+◌, ◌<◌, ◌≤◌, true, false, is_some, Err, IfOk, IfErr, IsOk, OnOk, OnErr};
 ghost use Rattle.fuxi_io.specs.Causes.{Rose};
 ghost use Rattle.fuxi_io.specs.Disks.{WhereTold};
-ghost use Rattle.fuxi_terms.specs.Cluster.{has_machine};
+ghost use Rattle.fuxi_terms.specs.Cluster.{has_group, has_machine};
 ghost use Rattle.fuxi_terms.specs.Limits.{most_jobs, most_machines, most_steps};
 ghost use Rattle.written_roles.specs.MasterSteps.{Submits};
 ghost use Rattle.written_roles.specs.MasterRoles.{MasterRole, master_commanded};
 ghost use Rattle.fuxi_master.specs.Cores.{StandsFor};
 ghost use Rattle.fuxi_master.specs.Steps.{IsFitting};
 ghost use Rattle.schedule_text.specs.Asked.{job_named};
-ghost use Rattle.party_orders.specs.OrderedParties.{IsCommand, IsNamed, KnowsWritten, LeavesOrder, ObeyedAs, TestsAs, hard_after, has_writing, master_command, written_for};
+ghost use Rattle.party_orders.specs.OrderedParties.{IsCommand, IsNamed, KnowsWritten, LeavesOrder, MayWant, ObeyedAs, TestsAs, TestsWant, hard_after, has_writing, master_command, written_for};
 ghost use Rattle.party_orders.specs.CarriedOrders.{CarriesOut, IsTold, carried_out, refusal_in};
 
 use crate::order::MasterCommand;
@@ -47,6 +47,7 @@ fn tested_job(
     ensures tests { IfOk result (TestsAs cluster.now (Submits (job_named app.0 group.0 asks.now))) }
     ensures command { IfOk result (λ answer. IfOk answer IsCommand) }
     ensures writes { IfOk result (λ answer. IfOk answer (λ event. is_some (written_for event) ≡ true)) }
+    ensures memory { OnErr result (has_group cluster.now group.0 ≡ true) }
 {
     law::jobs_are_tested_alike();
     if group.0 >= cluster.groups() {
@@ -73,7 +74,8 @@ fn tested_machine(cluster: &Cluster, machine: MachineNo) -> Result<(), Refusal>
     Ok(())
 }
 
-/// The tests of a command before its writing: what a master is told by it, or why it is refused.
+/// The tests of a command before its writing: what a master is told by it, or why it is refused. A submission alone may want memory, once its group
+/// is there; it may come before the fault of a unit is told.
 pub fn tested(
     alloc: Global,
     cluster: &Cluster,
@@ -83,6 +85,7 @@ pub fn tested(
     ensures tests { IfOk result (TestsAs cluster.now (master_command command.now)) }
     ensures command { IfOk result (λ answer. IfOk answer IsCommand) }
     ensures writes { IfOk result (λ answer. IfOk answer (λ event. is_some (written_for event) ≡ has_writing (master_command command.now))) }
+    ensures memory { OnErr result (TestsWant cluster.now (master_command command.now)) }
 {
     match command {
         MasterCommand::Submit(app, group, asks) => tested_job(alloc, cluster, *app, *group, *asks),
@@ -148,6 +151,7 @@ fn carry_out<D: Disk>(
     ensures later { D.faults disk.old ≤ D.faults disk.new }
     ensures cause { result ≡ Err Halt.Disk → Rose (D.faults disk.old) (D.faults disk.new) }
     ensures served { result ≢ Err Halt.Disk → D.faults disk.new ≡ D.faults disk.old }
+    ensures memory { result ≡ Err Halt.Memory → is_some (written_for event) ≡ true → (r : MasterRole) → StandsFor master.core r → IsOk (carried_out r hard.old.value event) }
     ensures told { (r : MasterRole) → StandsFor master.core r → WhereTold (LeavesOrder hard.old hard.new (hard_after hard.old.value (carried_out r hard.old.value event)) result) (D.told disk.old) (D.told disk.new) }
 {
     let Some(writing) = writing_of(&event) else {
@@ -170,7 +174,8 @@ fn carry_out<D: Disk>(
 }
 
 /// The master carries out a command, or refuses it: its tests, the writing of the hard state, and only then the master itself. One that is refused
-/// has changed nothing. A call of the disk that failed is told by `Halt::Disk` and nothing else.
+/// leaves the hard state, and a core that stands for what it stood for. A call of the disk that failed is told by `Halt::Disk` and nothing else; want of
+/// memory is told of no end of a job, ban or unban that is refused, and of no submission to a group that is not there.
 pub fn obey<D: Disk>(
     master: Master,
     alloc: Global,
@@ -190,6 +195,7 @@ pub fn obey<D: Disk>(
     ensures later { D.faults disk.old ≤ D.faults disk.new }
     ensures cause { result ≡ Err Halt.Disk → Rose (D.faults disk.old) (D.faults disk.new) }
     ensures served { result ≢ Err Halt.Disk → D.faults disk.new ≡ D.faults disk.old }
+    ensures memory { result ≡ Err Halt.Memory → (r : MasterRole) → StandsFor master.core r → MayWant r hard.old.value (master_command command.now) }
     ensures told { (r : MasterRole) → StandsFor master.core r → WhereTold (LeavesOrder hard.old hard.new (hard_after hard.old.value (master_commanded r hard.old.value (master_command command.now))) result) (D.told disk.old) (D.told disk.new) }
 {
     match tested(alloc, master.table().cluster(), command) {

@@ -44,7 +44,7 @@ use Rattle.fuxi_terms.proofs.IndexedLists.{one_set}
 pub any_last : (p : ℕ → Bool) (n : ℕ) → list_any p (below (n + 1)) ≡ (list_any p (below n) || p n)
 any_last p n = ap (λ k. list_any p (below k)) (add-one n) ∙ list_any-append p (below n) (n ∷ []) ∙ ap (λ b. list_any p (below n) || b) (or_false (p n))
 
-any_one : (p : ℕ → Bool) (n i : ℕ) → list_any p (below n) ≡ false → i < n → p i ≡ false
+pub any_one : (p : ℕ → Bool) (n i : ℕ) → list_any p (below n) ≡ false → i < n → p i ≡ false
 any_one p zero i e lt = absurd (omega (arith, lt))
 any_one p (suc n) i e lt =
     let b = both_false (list_any p (below n)) (p n) (sym (list_any-append p (below n) (n ∷ []) ∙ ap (λ b. list_any p (below n) || b) (or_false (p n))) ∙ e) in

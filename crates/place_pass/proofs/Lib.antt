@@ -13,6 +13,7 @@ mod BoundsAfterChange
 mod NumberedLemmas
 mod FlagsTellWhoWaits
 mod SightsLemmas
+mod PackedRanksLemmas
 mod NotedMarksLemmas
 mod SearchCountsLemmas
 mod KeptLemmas
@@ -23,6 +24,10 @@ mod StandsAfterChange
 mod LinedLemmas
 mod StillLemmas
 mod AskedLemmas
+mod DemandScopesLemmas
+mod SlotsLemmas
+mod MarksAtChanges
+mod StandsAtChanges
 mod PathLemmas
 mod DemandWalksLemmas
 mod AskedTheSame

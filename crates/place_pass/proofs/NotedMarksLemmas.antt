@@ -1,32 +1,17 @@
 -- Marks of which some are noted: what another mark changes, and what is passed.
-use Rattle.std.proofs.Common.{◌≡◌, ◌≢◌, ℕ, ◌+◌, ◌<◌, ◌≤◌, Bool, true, false, cond, nat_eq, nat_lt, List, length, map, set, Option, None, Some, sym, ◌∙◌, ap, arith, inl, inr}
-use Rattle.std.specs.Prelude.{◌&&◌, is_some}
-use Rattle.std.proofs.lemmas.Bool.{cases_eq, cases_lt}
+use Rattle.std.proofs.Common.{◌≡◌, ℕ, zero, suc, ◌+◌, ◌<◌, ◌≤◌, true, false, cond, nat_eq, nat_lt, List, length, map, set, Option, None, Some, get_or, refl, subst, sym, ◌∙◌, ap, arith, inl, inr}
+use Rattle.std.specs.Prelude.{is_some, replicate}
+use Rattle.std.proofs.lemmas.Bool.{cases_lt}
 use Rattle.std.proofs.lemmas.Bool.Decides.{nat_tests}
-use Rattle.std.proofs.lemmas.List.{length-map, length-set}
-use Rattle.fuxi_terms.proofs.Booleans.{and_false, nat_itself}
-use Rattle.fuxi_terms.proofs.Lookups.{none_is}
-use Rattle.locality_tree.specs.NumberSets.{in_set}
-use Rattle.locality_tree.specs.declared.number_set.NumberSet.{NumberSet}
+use Rattle.std.proofs.lemmas.List.{length-map, length-set, length-replicate}
+use Rattle.fuxi_terms.proofs.Booleans.{number_is, nat_itself}
+use Rattle.fuxi_terms.proofs.IndexedLists.{one_set}
 use Rattle.place_pass.specs.declared.marks.Mark.{Mark}
-use Rattle.place_pass.specs.Bounds.{MarkRecord, mark_of, mark_at, key_of, zero_rank, lowered, lowered_mark}
+use Rattle.place_pass.specs.Bounds.{MarkRecord, mark_of, mark_at, key_of, zero_rank, no_mark, reset_mark, lowered, lowered_mark}
 use Rattle.place_pass.specs.NotedMarks.{AreNoted}
+use Rattle.place_pass.specs.PackedRanks.{IsSmall, IsAbove}
+use Rattle.place_pass.proofs.PackedRanksLemmas.{first_key, least_above, least_some}
 use Rattle.place_pass.proofs.SightsLemmas.{marks_set}
-
-pub none_there : (other opened : Bool) (key : Option (List ℕ)) → key ≡ None → (other && (opened && is_some key)) ≡ false
-none_there other opened key e = ap (λ k. other && (opened && is_some k)) e ∙ ap (λ b. other && b) (and_false opened) ∙ and_false other
-
--- where nothing is placeable of the pairs below a turn, nothing is of those below an earlier one
-pub settled_before : (k : MarkRecord) (until turns : ℕ) → turns ≤ until → key_of k until ≡ None → key_of k turns ≡ None
-settled_before k until turns le e =
-    let bounded : Bool → Option (List ℕ) = λ b. cond b (Some zero_rank) k.bound in
-    elim (cases_lt k.until until) as (λ _. key_of k turns ≡ None) [
-      | inl lt ↦ let t : nat_lt k.until until ≡ true = grind (arith, nat_tests, lt) in let f : Some zero_rank ≡ None = sym (ap bounded t) ∙ e in cc
-      | inr ge ↦
-          let t : nat_lt k.until until ≡ false = grind (arith, nat_tests, ge) in
-          let f : nat_lt k.until turns ≡ false = grind (arith, nat_tests, ge, le) in
-          ap bounded f ∙ sym (ap bounded t) ∙ e
-    ]
 
 -- a mark without a bound stays as it is where what is placeable may come earlier
 pub lowered_none : (k : MarkRecord) → key_of k 0 ≡ None → lowered_mark k ≡ k
@@ -44,11 +29,31 @@ lowered_passed first before from to done left passed m lt = elim (cases_lt m fro
   | inr ge ↦ sym (lowered_none (mark_at before m) (passed m ge lt)) ∙ ap lowered_mark (left m ge)
 ]
 
--- each machine may have something
-pub noted_all : (marks : List MarkRecord) (unsettled news : NumberSet) (until turns : ℕ) → ((n : ℕ) → n < 2048 → in_set news n ≡ true) → AreNoted marks unsettled until → AreNoted marks news turns
-noted_all marks unsettled news until turns all old = record {
+-- machines that were not looked at
+repeated : {A : Type 0} (n m : ℕ) (x d : A) → m < n → get_or (replicate n x) m d ≡ x
+repeated zero m x d lt = absurd (omega (arith, lt))
+repeated (suc n) zero x d lt = refl
+repeated (suc n) (suc m) x d lt = repeated n m x d (omega (arith, lt))
+
+pub noted_new : (n : ℕ) → n ≤ 256 → AreNoted (replicate n (reset_mark 0)) (replicate n 0) 0
+noted_new n few =
+    let long = length-replicate {A = MarkRecord} n (reset_mark 0) in
+    record {
+      few = omega (arith, few, long);
+      long = length-replicate {A = ℕ} n 0 ∙ sym long;
+      above = λ m turns lt le some.
+          let inside : m < n = omega (arith, lt, long) in
+          let small : IsSmall first_key = record { late = omega arith; level = omega arith; turn = omega arith } in
+          subst (λ (k : MarkRecord). is_some (key_of k turns) ≡ true → IsAbove k turns m (get_or (replicate n 0) m 0)) (sym (repeated n m (reset_mark 0) no_mark inside))
+          (λ e. subst (IsAbove (reset_mark 0) turns m) (sym (repeated {A = ℕ} n m 0 0 inside)) (least_some (reset_mark 0) first_key turns m refl small e)) some;
+    }
+
+-- the numbers of all machines are the least
+pub noted_least : (marks : List MarkRecord) (keys news : List ℕ) (until turns : ℕ) → length news ≡ length keys → ((n : ℕ) → n < length news → get_or news n 0 ≡ 0) → AreNoted marks keys until → AreNoted marks news turns
+noted_least marks keys news until turns long all old = record {
   few = old.few;
-  settled = λ m l out. let few = old.few in let f : true ≡ false = sym (all m (omega (arith, l, few))) ∙ out in cc;
+  long = long ∙ old.long;
+  above = λ m t lt le some. subst (IsAbove (mark_at marks m) t m) (sym (all m (let number = old.long in omega (arith, lt, number, long)))) (least_above (mark_at marks m) t m (get_or keys m 0) (λ e. old.above m 0 lt (omega arith) e) some);
 }
 
 -- ---- one machine has another mark
@@ -56,22 +61,30 @@ module _ (marks : List Mark) (machine : ℕ) (x : Mark) where
   pub long_set : length (map mark_of (set marks machine x)) ≡ length (map mark_of marks)
   long_set = length-map (set marks machine x) mark_of ∙ length-set marks machine x ∙ sym (length-map marks mark_of)
 
-  pub noted_set : (unsettled news : NumberSet) (until : ℕ) → machine < length marks → AreNoted (map mark_of marks) unsettled until → in_set news machine ≡ is_some (key_of (mark_of x) until)
-      → ((n : ℕ) → n ≢ machine → in_set news n ≡ in_set unsettled n) → AreNoted (map mark_of (set marks machine x)) news until
-  noted_set unsettled news until lt old here others =
+  pub noted_set : (keys : List ℕ) (key until : ℕ) → machine < length marks → AreNoted (map mark_of marks) keys until
+      → ((turns : ℕ) → turns ≤ until → is_some (key_of (mark_of x) turns) ≡ true → IsAbove (mark_of x) turns machine key) → AreNoted (map mark_of (set marks machine x)) (set keys machine key) until
+  noted_set keys key until lt old here =
       let after : List MarkRecord = map mark_of (set marks machine x) in
       let long = long_set in
+      let number = old.long in
+      let few = old.few in
+      let all = length-map marks mark_of in
+      let inside : machine < length keys = omega (arith, lt, number, all) in
       record {
-        few = let few = old.few in omega (arith, long, few);
-        settled = λ m l out. elim (cases_eq m machine) as (λ _. key_of (mark_at after m) until ≡ None) [
-          | inl e ↦
-              ap (λ (k : MarkRecord). key_of k until) (marks_set marks machine x m lt ∙ ap (λ t. cond t (mark_of x) (mark_at (map mark_of marks) m)) (ap (λ z. nat_eq machine z) e ∙ nat_itself machine))
-              ∙ none_is (key_of (mark_of x) until) (sym here ∙ ap (in_set news) (sym e) ∙ out)
-          | inr d ↦
-              let f : nat_eq machine m ≡ false = grind (arith, nat_tests, d) in
-              ap (λ (k : MarkRecord). key_of k until) (marks_set marks machine x m lt ∙ ap (λ t. cond t (mark_of x) (mark_at (map mark_of marks) m)) f)
-              ∙ old.settled m (omega (arith, l, long)) (sym (others m d) ∙ out)
-        ];
+        few = omega (arith, long, few);
+        long = length-set keys machine key ∙ old.long ∙ sym long;
+        above = λ m turns l le some. elim (nat_eq machine m) as (λ t. nat_eq machine m ≡ t → IsAbove (mark_at after m) turns m (get_or (set keys machine key) m 0)) [
+          | true ↦ λ t.
+              let is : mark_at after m ≡ mark_of x = marks_set marks machine x m lt ∙ ap (λ b. cond b (mark_of x) (mark_at (map mark_of marks) m)) t in
+              let k : get_or (set keys machine key) m 0 ≡ key = one_set keys machine m key 0 inside ∙ ap (λ b. cond b key (get_or keys m 0)) t in
+              let one : IsAbove (mark_of x) turns machine key = here turns le (sym (ap (λ (z : MarkRecord). is_some (key_of z turns)) is) ∙ some) in
+              subst (λ (z : MarkRecord). IsAbove z turns m (get_or (set keys machine key) m 0)) (sym is) (subst (IsAbove (mark_of x) turns m) (sym k) (subst (λ n. IsAbove (mark_of x) turns n key) (number_is machine m t) one))
+          | false ↦ λ t.
+              let is : mark_at after m ≡ mark_at (map mark_of marks) m = marks_set marks machine x m lt ∙ ap (λ b. cond b (mark_of x) (mark_at (map mark_of marks) m)) t in
+              let k : get_or (set keys machine key) m 0 ≡ get_or keys m 0 = one_set keys machine m key 0 inside ∙ ap (λ b. cond b key (get_or keys m 0)) t in
+              let one : IsAbove (mark_at (map mark_of marks) m) turns m (get_or keys m 0) = old.above m turns (omega (arith, l, long)) le (sym (ap (λ (z : MarkRecord). is_some (key_of z turns)) is) ∙ some) in
+              subst (λ (z : MarkRecord). IsAbove z turns m (get_or (set keys machine key) m 0)) (sym is) (subst (IsAbove (mark_at (map mark_of marks) m) turns m) (sym k) one)
+        ] refl;
       }
 
 -- ---- a walk over the marks changes one more

@@ -27,15 +27,12 @@ pub count_same : (f g : ℕ → Bool) (n : ℕ) → ((m : ℕ) → f m ≡ g m) 
 count_same f g zero e = refl
 count_same f g (suc n) e = λ i. count_same f g n e i + cond (e n i) 1 0
 
--- numbers that do not pass the test are not counted
-pub count_passed : (f : ℕ → Bool) (from to : ℕ) → from ≤ to → ((m : ℕ) → from ≤ m → m < to → f m ≡ false) → count_below f to ≡ count_below f from
-count_passed f from zero le out = ap (count_below f) (let e : zero ≡ from = omega (arith, le) in e)
-count_passed f from (suc to) le out = elim (cases_lt to from) as (λ _. count_below f (suc to) ≡ count_below f from) [
-  | inl lt ↦ ap (count_below f) (let e : suc to ≡ from = omega (arith, lt, le) in e)
-  | inr ge ↦
-      let none : ◌≡◌ {A = ℕ} (cond (f to) 1 0) 0 = ap (λ b. cond b 1 0) (out to ge (omega arith)) in
-      let before = count_passed f from to ge (λ m a b. out m a (omega (arith, b))) in
-      omega (arith, none, before)
+-- no fewer are counted below a greater number
+pub count_more : (f : ℕ → Bool) (from to : ℕ) → from ≤ to → count_below f from ≤ count_below f to
+count_more f from zero le = let e = ap (count_below f) (let e : zero ≡ from = omega (arith, le) in e) in omega (arith, e)
+count_more f from (suc to) le = elim (cases_lt to from) as (λ _. count_below f from ≤ count_below f (suc to)) [
+  | inl lt ↦ let e = ap (count_below f) (let e : suc to ≡ from = omega (arith, lt, le) in e) in omega (arith, e)
+  | inr ge ↦ let before = count_more f from to ge in omega (arith, before)
 ]
 
 -- the machine that is looked at first and the others are all of them

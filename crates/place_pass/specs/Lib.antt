@@ -3,9 +3,11 @@ pub mod Placers
 pub mod WaitingLines
 pub mod Best
 pub mod Bounds
+pub mod PackedRanks
 pub mod Sights
 pub mod SearchCounts
 pub mod PlacerTrees
 pub mod DemandWalks
+pub mod DemandScopes
 pub mod Scenes
 pub mod NotedMarks

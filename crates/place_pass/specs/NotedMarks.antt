@@ -1,10 +1,11 @@
--- Which machines may have something by their marks.
-use Rattle.std.specs.Prelude.{◌≡◌, ℕ, ◌<◌, ◌≤◌, false, List, length, None}
-use Rattle.locality_tree.specs.NumberSets.{in_set}
-use Rattle.locality_tree.specs.declared.number_set.NumberSet.{NumberSet}
+-- What is noted of the bounds of machines.
+use Rattle.std.specs.Prelude.{◌≡◌, ℕ, ◌<◌, ◌≤◌, true, List, length, is_some}
+use Rattle.std.proofs.Common.{get_or}
 use Rattle.place_pass.specs.Bounds.{MarkRecord, mark_at, key_of}
+use Rattle.place_pass.specs.PackedRanks.{IsAbove}
 
--- a machine that is not in the set has no bound, and the pairs with a smaller turn than this one were looked at there
-pub record AreNoted (marks : List MarkRecord) (unsettled : NumberSet) (until : ℕ) : Type 0 where
+-- the number of each machine is no greater than that of its bound, also where pairs up to this turn were not looked at there
+pub record AreNoted (marks : List MarkRecord) (keys : List ℕ) (until : ℕ) : Type 0 where
   pub few : length marks ≤ 256
-  pub settled : (m : ℕ) → m < length marks → in_set unsettled m ≡ false → key_of (mark_at marks m) until ≡ None
+  pub long : length keys ≡ length marks
+  pub above : (m turns : ℕ) → m < length marks → turns ≤ until → is_some (key_of (mark_at marks m) turns) ≡ true → IsAbove (mark_at marks m) turns m (get_or keys m 0)

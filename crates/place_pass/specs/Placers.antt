@@ -1,5 +1,5 @@
 -- What a placer stands for, and when it is level with a table.
-use Rattle.std.specs.Prelude.{◌≡◌, ℕ, ◌+◌, ◌≤◌, ◌<◌, Bool, true, false, cond, not, nat_eq, nat_lt, ◌&&◌, List, [], ◌*◌, length, filter, Option, None}
+use Rattle.std.specs.Prelude.{◌≡◌, ℕ, ℤ, ◌+◌, ◌≤◌, ◌<◌, Bool, true, false, cond, not, nat_eq, nat_lt, ◌&&◌, List, [], ◌*◌, length, filter, Option, None}
 use Rattle.std.specs.Option.{option_map}
 use Rattle.std.proofs.Common.{get_or}
 use Rattle.fuxi_terms.specs.Cluster.{ClusterRecord, JobRecord, has_rack, has_at}
@@ -12,7 +12,8 @@ use Rattle.fuxi_terms.specs.TallyKeys.{want_key, avoid_key}
 use Rattle.fuxi_terms.specs.Jobs.{KnownJob, job_of, job_numbers, unit_count, priority_of, size_at, most_of, group_of}
 use Rattle.written_roles.specs.Masters.{out_of}
 use Rattle.written_roles.specs.Placing.{Board, waiting_in, has_pair, is_allowed_in, placeable_in}
-use Rattle.std.specs.List.{AllByRecursion}
+use Rattle.std.specs.List.{AllByRecursion, list_any}
+use Rattle.std.specs.Ordering.{eq_by_cmp}
 use Rattle.grant_table.specs.GrantTables.{TableRecord, IsSound, as_known}
 use Rattle.place_pass.specs.WaitingLines.{LineRecord, units_in_all}
 use Rattle.place_pass.specs.Bounds.{MarkRecord, mark_at, key_of, turn_at, IsRising, IsBounded}
@@ -163,6 +164,13 @@ is_there c units k =
 
 abbrev pub asks_after : SeenRecord → ℕ → List (Key × ℕ) → ℕ → Key → ℕ
 asks_after s a es b k = cond (nat_eq a b) (cond (is_there s.cluster (units_seen s a) k) (count key_cmp es k) 0) (asks_seen s b k)
+
+-- a demand asks of a job the same as before at each key that these changes do not name
+abbrev pub is_named : Key → List (Key × ℤ) → Bool
+is_named k cs = list_any (λ (c : Key × ℤ). eq_by_cmp key_cmp k c.0) cs
+
+abbrev pub AsksOtherwiseAt : List (Key × ℤ) → SeenRecord → ℕ → List (Key × ℕ) → Type 0
+AsksOtherwiseAt cs s a es = (k : Key) → is_named k cs ≡ false → asks_seen s a k ≡ asks_after s a es a k
 
 -- no want of a job rises, and each unit of it still avoids the machines that it avoided
 pub record AsksNoMore (before after : ℕ → Key → ℕ) (a : ℕ) : Type 0 where

@@ -1,12 +1,11 @@
 -- What is found on machines: real pairs, that no other comes before.
-use Rattle.std.specs.Prelude.{◌≡◌, ℕ, ◌-◌, ◌<◌, ◌≤◌, Bool, true, false, cond, List, [], ◌∷◌, ◌++◌, length, slice_get, Option, Some, None}
+use Rattle.std.specs.Prelude.{◌≡◌, ℕ, ◌-◌, ◌<◌, ◌≤◌, Bool, true, false, cond, List, [], ◌∷◌, ◌++◌, length, slice_get, Option, Some, None, nat_eq, is_some}
 use Rattle.std.specs.Option.{option_map}
 use Rattle.fuxi_terms.specs.Cluster.{has_at}
 use Rattle.fuxi_terms.specs.Keys.{Pair}
 use Rattle.fuxi_terms.specs.Tables.{total_at, Table}
 use Rattle.fuxi_terms.specs.Vectors.{at_place}
 use Rattle.written_roles.specs.Placing.{Board, has_pair, placeable_in}
-use Rattle.place_pass.specs.declared.marks.Rank.{Rank}
 use Rattle.place_pass.specs.declared.search.Found.{Found}
 use Rattle.place_pass.specs.declared.search.Least.{Least}
 use Rattle.place_pass.specs.declared.search.Sight.{Sight}
@@ -15,6 +14,7 @@ use Rattle.grant_table.specs.GrantTables.{TableRecord, as_known}
 use Rattle.place_pass.specs.Cells.{Cell, Lifts, AvoidsStill}
 use Rattle.place_pass.specs.Placers.{AreAllowed}
 use Rattle.place_pass.specs.SearchCounts.{is_unsettled_by}
+use Rattle.place_pass.specs.PackedRanks.{packed, no_rank, IsAbove}
 use Rattle.place_pass.specs.Bounds.{MarkRecord, mark_at, key_of, reset_mark, lowered_mark, cleared_mark, rank_of, comes_before, IsBounded, is_bound, rank_at, rank_on, turn_at}
 
 abbrev pub sight_rank : Option Sight → Option (List ℕ)
@@ -75,14 +75,25 @@ abbrev pub is_first : Option Found → List ℕ → ℕ → Bool
 is_first None key m = true
 is_first (Some f) key m = comes_before (key ++ m ∷ []) (rank_with f)
 
+-- the number of the best, and of the least bound
+abbrev pub limit_in : Option Found → ℕ
+limit_in None = no_rank
+limit_in (Some x) = packed x.rank x.pick.machine.0
+
+abbrev pub number_in : Option Least → ℕ
+number_in None = no_rank
+number_in (Some x) = x.key
+
 -- a machine whose bound does not come before the least one, which there is
 pub record IsBehind (k : MarkRecord) (turns m : ℕ) (least : Option Least) : Type 0 where
-  pub key : Rank
-  pub is : key_of k turns ≡ Some (rank_of key)
   pub one : Least
   pub some : least ≡ Some one
-  pub behind : comes_before (rank_of key ++ m ∷ []) (rank_of one.rank ++ one.machine.0 ∷ []) ≡ false
+  pub above : IsAbove k turns m one.key
 
 -- so is each unsettled machine below a number
 abbrev pub AreBehind : List Bool → List MarkRecord → ℕ → ℕ → Option Least → Type 0
 AreBehind opened marks turns n least = (m : ℕ) → m < n → is_unsettled_by opened (mark_at marks m) turns m ≡ true → IsBehind (mark_at marks m) turns m least
+
+-- the bound of each machine from one number to another does not come before the best, but for the one that was considered first
+abbrev pub ArePassed : List MarkRecord → ℕ → ℕ → ℕ → ℕ → Option Found → Type 0
+ArePassed marks turns start from to best = (m : ℕ) → from ≤ m → m < to → nat_eq m start ≡ false → is_some (key_of (mark_at marks m) turns) ≡ true → IsAbove (mark_at marks m) turns m (limit_in best)

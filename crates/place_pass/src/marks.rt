@@ -10,15 +10,14 @@ ghost use Rattle.place_pass.specs.Cells.{cell_at, job_at, taken};
 ghost use Rattle.place_pass.specs.Placers.{AreAllowed, AreLevel, board_over};
 ghost use Rattle.place_pass.specs.Best.{AreAdmitted};
 ghost use Rattle.place_pass.specs.Bounds.{MarkRecord, rank_of, mark_of, mark_at, key_of, zero_rank, reset_mark, cleared_mark, lowered_mark, after_taking, is_nearer_in};
-ghost use Rattle.place_pass.specs.NotedMarks.{AreNoted};
 ghost use Rattle.place_pass.specs.Sights.{IsAsked, IsForgotten};
 
+use crate::keys::{first_below, number_of_mark, number_of_none, renew};
 use crate::line::Line;
 use crate::wishes::Wishes;
 use cluster_desc::Cluster;
 use fuxi_terms::OutOfMemory;
 use grant_table::GrantTable;
-use locality_tree::NumberSet;
 use party_ledgers::Demand;
 use schedule_unit::{AppNo, GroupNo, MachineNo, RackNo, UnitNo};
 use std::alloc::Global;
@@ -83,13 +82,6 @@ impl Mark {
         }
     }
 
-    /// Whether a pair may be placeable, also one that was not looked at.
-    pub(crate) fn may_have(&self, turns: u64) -> bool
-        ensures { result ≡ is_some (key_of (mark_of self.now) turns) }
-    {
-        (self.until < turns) | self.bound.is_some()
-    }
-
     // Anything may be placeable.
     fn reset(&mut self)
         ensures { mark_of self.new ≡ reset_mark self.old.until }
@@ -134,7 +126,7 @@ impl Mark {
     }
 
     // A unit asks otherwise: it may be nearer, and where an avoidance of the machine was lifted, it may be placed there.
-    fn ask(&mut self, lifted: bool)
+    pub(crate) fn ask(&mut self, lifted: bool)
         ensures { mark_of self.new ≡ cond lifted (reset_mark self.old.until) (lowered_mark (mark_of self.old)) }
     {
         if lifted {
@@ -168,23 +160,12 @@ impl Mark {
     }
 }
 
-// Where pairs up to a turn are looked at, each machine may have one of those that were appended.
-fn renew(unsettled: &mut NumberSet, until: &mut u64, turns: u64)
-    ensures { (marks : List MarkRecord) → AreNoted marks unsettled.old until.old → AreNoted marks unsettled.new until.new }
-{
-    if *until >= turns {
-        return;
-    }
-    *unsettled = NumberSet::all();
-    *until = turns;
-}
-
-/// A mark for each machine, and which machines may have something: those without a mark of something are passed without a look.
+/// A mark for each machine, and its bound as one number, so that the least of many is found without a look at marks.
 #[derive(Drop)]
 pub(crate) struct Marks {
     marks: Vec<Mark>,
-    /// A machine that is not in it has no bound, and its pairs with a turn below `until` were looked at.
-    unsettled: NumberSet,
+    /// None is greater than that of the machine's bound of all pairs with a turn below `until`.
+    keys: Vec<u128>,
     until: u64,
 }
 
@@ -197,12 +178,13 @@ impl Model for Marks {
 
     ghost view = { λ s. map mark_of s.marks.items };
 
-    ghost invariant = { λ s. AreNoted (map mark_of s.marks.items) s.unsettled s.until };
+    ghost invariant = { λ s. AreNoted (map mark_of s.marks.items) s.keys.items s.until };
 }
 
 impl Marks {
-    ghost use Rattle.std.specs.Prelude.{◌≡◌, ℕ, ◌<◌, ◌≤◌, nat_eq, cond, length, replicate, None, IfOk};
+    ghost use Rattle.std.specs.Prelude.{◌≡◌, ℕ, ◌<◌, ◌≤◌, true, is_some, nat_eq, cond, length, replicate, IfOk};
     ghost use Rattle.place_pass.specs.Bounds.{mark_of, mark_at, key_of, reset_mark, lowered_mark, taken_mark};
+    ghost use Rattle.place_pass.specs.PackedRanks.{IsAbove};
 
     /// Of machines that were not looked at.
     pub(crate) fn new(alloc: Global, machines: usize) -> Result<Marks, OutOfMemory>
@@ -211,7 +193,7 @@ impl Marks {
     {
         Ok(Marks {
             marks: Vec::from_elem(alloc, Mark::new(), machines)?,
-            unsettled: NumberSet::all(),
+            keys: Vec::from_elem(alloc, 0, machines)?,
             until: 0,
         })
     }
@@ -232,21 +214,33 @@ impl Marks {
         &self.marks[machine as usize]
     }
 
-    /// The first machine from one on that may have something, also of the pairs that were not looked at: their turns are below `turns`.
-    pub(crate) fn next(&self, from: u32, turns: u64) -> u32
+    /// A number that is not above that of the machine's bound of all pairs: their turns are below `turns`.
+    pub(crate) fn key(&self, machine: u32, turns: u64) -> u128
+        requires { machine < length self.now }
+        ensures { is_some (key_of (mark_at self.now machine) turns) ≡ true → IsAbove (mark_at self.now machine) turns machine result }
+    {
+        if self.until < turns {
+            return 0;
+        }
+        self.keys[machine as usize]
+    }
+
+    /// The first machine from one on whose bound may have a number below a limit. The turns of all pairs are below `turns`.
+    pub(crate) fn next(&self, from: u32, limit: u128, turns: u64) -> u32
         requires { from ≤ length self.now }
         ensures least { from ≤ result }
         ensures inside { result ≤ length self.now }
-        ensures passed { (m : ℕ) → from ≤ m → m < result → key_of (mark_at self.now m) turns ≡ None }
+        ensures few { length self.now ≤ 256 }
+        ensures passed { (m : ℕ) → from ≤ m → m < result → is_some (key_of (mark_at self.now m) turns) ≡ true → IsAbove (mark_at self.now m) turns m limit }
     {
+        // (where pairs were appended the first of all has the least number)
+        if limit == 0 {
+            return self.marks.len() as u32;
+        }
         if self.until < turns {
             return from;
         }
-        // (most often it is the next one)
-        if self.unsettled.contains(from as usize) {
-            return from;
-        }
-        self.unsettled.first_from(from as usize, self.marks.len()) as u32
+        first_below(&self.keys, from as usize, limit) as u32
     }
 
     /// The mark of a machine is this one.
@@ -255,10 +249,10 @@ impl Marks {
         ensures long { length self.new ≡ length self.old }
         ensures marks { (m : ℕ) → mark_at self.new m ≡ cond (nat_eq machine m) (mark_of mark) (mark_at self.old m) }
     {
-        renew(&mut self.unsettled, &mut self.until, mark.until);
+        renew(&mut self.keys, &mut self.until, mark.until);
+        let key = number_of_mark(&mark, self.until, machine);
         self.marks[machine as usize] = mark;
-        self.unsettled
-            .set(machine as usize, mark.may_have(self.until));
+        self.keys[machine as usize] = key;
     }
 
     // What is placeable on a machine may come earlier.
@@ -269,8 +263,8 @@ impl Marks {
     {
         let mark = &mut self.marks[machine as usize];
         mark.lower();
-        self.unsettled
-            .set(machine as usize, mark.may_have(self.until));
+        let key = number_of_mark(mark, self.until, machine);
+        self.keys[machine as usize] = key;
     }
 
     // Grants of a unit of this group were taken, on this machine or on another, where the unit may be nearer.
@@ -284,19 +278,19 @@ impl Marks {
         }
         let mark = &mut self.marks[machine as usize];
         mark.take(here, group, nearer);
-        self.unsettled
-            .set(machine as usize, mark.may_have(self.until));
+        let key = number_of_mark(mark, self.until, machine);
+        self.keys[machine as usize] = key;
     }
 }
 
 // On each machine what is placeable may come earlier.
-fn lower_all(marks: &mut Marks)
+pub(crate) fn lower_all(marks: &mut Marks)
     ensures marks { (m : ℕ) → m < length marks.old → mark_at marks.new m ≡ lowered_mark (mark_at marks.old m) }
     ensures long { length marks.new ≡ length marks.old }
 {
     let mut at = 0;
     while at < marks.len() {
-        let number = marks.next(at, 0);
+        let number = marks.next(at, number_of_none(), 0);
         if number >= marks.len() {
             return;
         }

@@ -1,14 +1,15 @@
 //! The placer.
 
 use crate::line::Line;
-use crate::marks::{Marks, forget_groups, reset_one, tell, tell_demand};
+use crate::marks::{Marks, forget_groups, reset_one, tell};
+use crate::scope::{Scope, tell_marks, tell_tree};
 use crate::search::{first, slot};
-use crate::standing::{enter_line, tell_asked, tell_spot};
+use crate::standing::{enter_line, tell_spot};
 use crate::waiting::{calm_all, join, leave, leave_served, number_from, stir};
 use crate::wishes::{UNIT_PLACES, Wishes, fresh_units};
 use cluster_desc::Cluster;
-use fuxi_terms::OutOfMemory;
 use fuxi_terms::limits::MOST_JOBS;
+use fuxi_terms::{Key, OutOfMemory};
 use grant_table::{Asking, GrantTable, Pick, Steps, law};
 use locality_tree::Tree;
 use party_ledgers::Demand;
@@ -90,9 +91,11 @@ impl Placer {
     ghost use Rattle.written_roles.specs.Placing.{first_in, lined, has_pair};
     ghost use Rattle.grant_table.specs.GrantTables.{TableRecord, as_known, with_admitted};
     ghost use Rattle.place_pass.specs.PlacerTrees.{TreeOf};
+    ghost use Rattle.std.proofs.Common.{get_or};
+    ghost use Rattle.place_pass.specs.DemandScopes.{AsksWithin};
     ghost use Rattle.place_pass.specs.Best.{spot_of};
     ghost use Rattle.place_pass.specs.SearchCounts.{IsLifted, IsTight, StaysTight, is_unsettled, unsettled_machines};
-    ghost use Rattle.place_pass.specs.Placers.{AreAllowed, SeenRecord, job_seen, asks_seen, asks_after, is_open, units_seen, IsLevelWith, IsUpToDate, IsSetFrom, IsGrantable, board_with, waiting_with, line_told, AsksNoMore};
+    ghost use Rattle.place_pass.specs.Placers.{AreAllowed, SeenRecord, job_seen, asks_seen, asks_after, is_open, units_seen, IsLevelWith, IsUpToDate, IsSetFrom, IsGrantable, board_with, waiting_with, line_told, AsksNoMore, AsksOtherwiseAt};
 
     /// A placer of a cluster, with no job, and with no machine open. It is level with the empty table. Where memory
     /// is refused there is no placer.
@@ -164,21 +167,63 @@ impl Placer {
         ensures idle { AsksNoMore (asks_seen self.old.seen) (asks_seen self.new.seen) app.0 → self.new.idle ≡ self.old.idle }
         ensures tight { IsTight self.old → StaysTight self.old self.new (IsLifted (asks_seen self.old.seen) (asks_seen self.new.seen) app.0) }
     {
-        let counts = demand.entries();
         let _wishes = self.wishes.cluster();
         let differing = self.wishes.differing(app, demand);
-        tell_demand(&mut self.marks, &self.wishes, app, demand, &differing);
-        let more = self.wishes.asked(app, demand, &differing);
+        self.heard(table, app, demand, &Scope::Units(differing));
+    }
+
+    /// The same, of a demand that asks otherwise than before only at keys that these changes name: no other key is looked up. The
+    /// amounts of the changes are not read.
+    pub fn asked_at(
+        &mut self,
+        table: &GrantTable,
+        app: AppNo,
+        demand: &Demand,
+        changes: &[(Key, i64)],
+    )
+        requires cluster { self.old.seen.cluster ≡ table.now.cluster }
+        requires here { 0 < units_seen self.old.seen app.0 }
+        requires there { is_known (as_known table.now.jobs) app.0 ≡ true }
+        requires told { AsksOtherwiseAt changes.now self.old.seen app.0 demand.now.entries }
+        ensures asks { (a : ℕ) (k : Key) → asks_seen self.new.seen a k ≡ asks_after self.old.seen app.0 demand.now.entries a k }
+        ensures jobs { (a : ℕ) → job_seen self.new.seen a ≡ job_seen self.old.seen a }
+        ensures rest { self.new.seen ≡ record self.old.seen { cells = self.new.seen.cells } }
+        ensures level { IsLevelWith self.old table.now → IsLevelWith self.new table.now }
+        ensures idle { AsksNoMore (asks_seen self.old.seen) (asks_seen self.new.seen) app.0 → self.new.idle ≡ self.old.idle }
+        ensures tight { IsTight self.old → StaysTight self.old self.new (IsLifted (asks_seen self.old.seen) (asks_seen self.new.seen) app.0) }
+    {
+        let _wishes = self.wishes.cluster();
+        let counts = demand.entries();
+        self.heard(table, app, demand, &Scope::Keys(changes));
+    }
+
+    // What both do, of a demand that asks otherwise than before only in a scope.
+    fn heard(&mut self, table: &GrantTable, app: AppNo, demand: &Demand, scope: &Scope)
+        requires cluster { self.old.seen.cluster ≡ table.now.cluster }
+        requires here { 0 < units_seen self.old.seen app.0 }
+        requires there { is_known (as_known table.now.jobs) app.0 ≡ true }
+        requires within { AsksWithin scope.now self.old.seen.cluster demand.now.entries (get_or self.old.seen.cells app.0 []) }
+        ensures asks { (a : ℕ) (k : Key) → asks_seen self.new.seen a k ≡ asks_after self.old.seen app.0 demand.now.entries a k }
+        ensures jobs { (a : ℕ) → job_seen self.new.seen a ≡ job_seen self.old.seen a }
+        ensures rest { self.new.seen ≡ record self.old.seen { cells = self.new.seen.cells } }
+        ensures level { IsLevelWith self.old table.now → IsLevelWith self.new table.now }
+        ensures idle { AsksNoMore (asks_seen self.old.seen) (asks_seen self.new.seen) app.0 → self.new.idle ≡ self.old.idle }
+        ensures tight { IsTight self.old → StaysTight self.old self.new (IsLifted (asks_seen self.old.seen) (asks_seen self.new.seen) app.0) }
+    {
+        let counts = demand.entries();
+        let _wishes = self.wishes.cluster();
+        tell_marks(&mut self.marks, &self.wishes, app, demand, scope);
+        let more = self.wishes.hear(app, demand, scope);
         stir(&mut self.calm, app);
         self.idle &= !more;
-        tell_asked(
+        tell_tree(
             &mut self.tree,
             &self.line,
             &self.wishes,
             &self.turn_of,
             table,
             app,
-            &differing,
+            scope,
         );
     }
 

@@ -18,9 +18,11 @@ ghost use Rattle.place_pass.specs.Best.{spot_of, AreAdmitted};
 ghost use Rattle.place_pass.specs.Bounds.{MarkRecord, rank_of, mark_of, mark_at, key_of, Rises, IsBounded, is_bound, comes_before};
 ghost use Rattle.place_pass.specs.SearchCounts.{is_unsettled_by, count_below};
 ghost use Rattle.place_pass.specs.PlacerTrees.{TreeOf};
-ghost use Rattle.place_pass.specs.Sights.{IsBehind, AreBehind, sight_rank, rank_with, found_rank, turn_in, IsFree, IsSight, AreBounded, is_first};
+ghost use Rattle.place_pass.specs.PackedRanks.{packed, IsAbove};
+ghost use Rattle.place_pass.specs.Sights.{IsBehind, AreBehind, ArePassed, limit_in, number_in, sight_rank, rank_with, found_rank, turn_in, IsFree, IsSight, AreBounded, is_first};
 ghost use Rattle.place_pass.specs.Scenes.{board_in, CanSearch, IsBestOn, IsMarked, IsSettledBy, AreMarked, IsFoundIn, IsLeastOn};
 
+use crate::keys::{number_of, number_of_none};
 use crate::line::Line;
 use crate::marks::{Mark, Marks, Rank};
 use crate::wishes::Wishes;
@@ -47,10 +49,10 @@ pub(crate) struct Sight {
     pub(crate) unit: UnitNo,
 }
 
-/// A machine with its bound.
+/// A machine with a number that is not above that of its bound.
 #[derive(Clone, Copy, Debug)]
 pub(crate) struct Least {
-    pub(crate) rank: Rank,
+    pub(crate) key: u128,
     pub(crate) machine: MachineNo,
 }
 
@@ -224,25 +226,6 @@ fn is_earlier_here(rank: &Rank, other: &Rank) -> bool
     let by_turn = comes_first(rank.turn, other.turn, false);
     let by_level = comes_first(rank.level as u64, other.level as u64, by_turn);
     comes_first(rank.late as u64, other.late as u64, by_level)
-}
-
-// The better one.
-fn better(best: Option<Found>, found: Found) -> Option<Found>
-    ensures kept { (r : List ℕ) → is_bound (found_rank best) r ≡ true → is_bound (found_rank result) r ≡ true }
-    ensures itself { (r : List ℕ) → is_bound (Some (rank_with found)) r ≡ true → is_bound (found_rank result) r ≡ true }
-    ensures some { is_none result ≡ false }
-    ensures one { IfSome result (λ x. (x ≡ found) ⊎ (Some x ≡ best)) }
-{
-    match best {
-        Some(best) => {
-            if is_earlier(&found.rank, found.pick.machine, &best) {
-                Some(found)
-            } else {
-                Some(best)
-            }
-        }
-        None => Some(found),
-    }
 }
 
 // The better one on one machine.
@@ -493,6 +476,18 @@ fn may_be_first(best: &Option<Found>, key: &Rank, machine: MachineNo) -> bool
     }
 }
 
+// The better one.
+fn better(best: &mut Option<Found>, found: Found)
+    ensures kept { (r : List ℕ) → is_bound (found_rank best.old) r ≡ true → is_bound (found_rank best.new) r ≡ true }
+    ensures itself { (r : List ℕ) → is_bound (Some (rank_with found)) r ≡ true → is_bound (found_rank best.new) r ≡ true }
+    ensures some { is_none best.new ≡ false }
+    ensures one { IfSome best.new (λ x. (x ≡ found) ⊎ (Some x ≡ best.old)) }
+{
+    if may_be_first(best, &found.rank, found.pick.machine) {
+        *best = Some(found);
+    }
+}
+
 // Whether a machine is passed without a look: it is closed, nothing is placeable there, or by its bound no pair there comes before the
 // best so far.
 fn is_passed(scene: &Scene<'_>, machine: MachineNo, mark: &Mark, best: &Option<Found>) -> bool
@@ -517,19 +512,19 @@ fn consider<L: Ledger>(
     machine: MachineNo,
     mark: &mut Mark,
     steps: &mut Steps<L>,
-    before: Option<Found>,
-) -> Option<Found>
+    best: &mut Option<Found>,
+)
     requires ready { CanSearch scene.now }
     requires machine { machine.0 < length scene.now.table.now.cluster.machines }
     requires unsettled { is_unsettled_by scene.now.wishes.now.opened (mark_of mark.old) scene.now.turns machine.0 ≡ true }
     requires old { IsMarked scene.now machine.0 (mark_of mark.old) }
     ensures mark { IsMarked scene.now machine.0 (mark_of mark.new) }
-    ensures least { IsLeastOn scene.now result machine.0 }
-    ensures kept { (r : List ℕ) → is_bound (found_rank before) r ≡ true → is_bound (found_rank result) r ≡ true }
-    ensures found { IfSome before (λ x. IsFoundIn scene.now x) → IfSome result (λ x. IsFoundIn scene.now x) }
+    ensures least { IsLeastOn scene.now best.new machine.0 }
+    ensures kept { (r : List ℕ) → is_bound (found_rank best.old) r ≡ true → is_bound (found_rank best.new) r ≡ true }
+    ensures found { IfSome best.old (λ x. IsFoundIn scene.now x) → IfSome best.new (λ x. IsFoundIn scene.now x) }
     ensures count { steps.new ≤ steps.old + cond (is_unsettled_by scene.now.wishes.now.opened (mark_of mark.old) scene.now.turns machine.0) 1 0 }
-    ensures settled { result ≡ None → IsSettledBy scene.now machine.0 (mark_of mark.new) }
-    ensures empty { result ≡ None → before ≡ None }
+    ensures settled { best.new ≡ None → IsSettledBy scene.now machine.0 (mark_of mark.new) }
+    ensures empty { best.new ≡ None → best.old ≡ None }
 {
     match look(scene, machine, mark, steps) {
         Some(sight) => {
@@ -539,14 +534,14 @@ fn consider<L: Ledger>(
                 machine,
             };
             better(
-                before,
+                best,
                 Found {
                     rank: sight.rank,
                     pick,
                 },
-            )
+            );
         }
-        None => before,
+        None => {}
     }
 }
 
@@ -556,79 +551,88 @@ fn consider_at<L: Ledger>(
     machine: MachineNo,
     marks: &mut Marks,
     steps: &mut Steps<L>,
-    before: Option<Found>,
-) -> Option<Found>
+    best: &mut Option<Found>,
+)
     requires ready { CanSearch scene.now }
     requires machine { machine.0 < length scene.now.table.now.cluster.machines }
     requires marked { length marks.old ≡ length scene.now.table.now.cluster.machines }
     requires old { AreMarked scene.now marks.old }
     ensures marked { length marks.new ≡ length marks.old }
     ensures marks { AreMarked scene.now marks.new }
-    ensures least { IsLeastOn scene.now result machine.0 }
-    ensures kept { (r : List ℕ) → is_bound (found_rank before) r ≡ true → is_bound (found_rank result) r ≡ true }
-    ensures found { IfSome before (λ x. IsFoundIn scene.now x) → IfSome result (λ x. IsFoundIn scene.now x) }
+    ensures least { IsLeastOn scene.now best.new machine.0 }
+    ensures kept { (r : List ℕ) → is_bound (found_rank best.old) r ≡ true → is_bound (found_rank best.new) r ≡ true }
+    ensures found { IfSome best.old (λ x. IsFoundIn scene.now x) → IfSome best.new (λ x. IsFoundIn scene.now x) }
     ensures others { (m : ℕ) → nat_eq machine.0 m ≡ false → mark_at marks.new m ≡ mark_at marks.old m }
     ensures count { steps.new ≤ steps.old + cond (is_unsettled_by scene.now.wishes.now.opened (mark_at marks.old machine.0) scene.now.turns machine.0) 1 0 }
-    ensures settled { result ≡ None → IsSettledBy scene.now machine.0 (mark_at marks.new machine.0) }
-    ensures empty { result ≡ None → before ≡ None }
+    ensures settled { best.new ≡ None → IsSettledBy scene.now machine.0 (mark_at marks.new machine.0) }
+    ensures empty { best.new ≡ None → best.old ≡ None }
 {
-    if is_passed(scene, machine, marks.at(machine.0), &before) {
-        return before;
+    if is_passed(scene, machine, marks.at(machine.0), best) {
+        return;
     }
     let mut mark = *marks.at(machine.0);
-    let best = consider(scene, machine, &mut mark, steps, before);
+    consider(scene, machine, &mut mark, steps, best);
     marks.put(machine.0, mark);
-    best
 }
 
-// Whether the machine is open and by its mark a pair may be placeable there.
-fn is_unsettled(wishes: &Wishes, marks: &Marks, machine: MachineNo, turns: u64) -> bool
-    requires { machine.0 < length marks.now }
-    ensures { result ≡ is_unsettled_by wishes.now.opened (mark_at marks.now machine.0) turns machine.0 }
+// The number of the best so far.
+fn number_of_best(best: &Option<Found>) -> u128
+    ensures { result ≡ limit_in best.now }
 {
-    marks.at(machine.0).may_have(turns) & wishes.is_open(machine)
+    match best {
+        Some(found) => number_of(found.rank, found.pick.machine.0),
+        None => number_of_none(),
+    }
 }
 
-// The first other machine from one on that is unsettled. Those before it are passed, and those without a mark without a look.
-fn next_other(wishes: &Wishes, marks: &Marks, start: MachineNo, from: u32, turns: u64) -> u32
+// The first other machine from one on where a pair may come before the best so far. Those before it are passed without a look at
+// their marks.
+fn next_other(marks: &Marks, start: MachineNo, from: u32, turns: u64, best: &Option<Found>) -> u32
     requires { from ≤ length marks.now }
     ensures least { from ≤ result }
     ensures inside { result ≤ length marks.now }
+    ensures few { length marks.now ≤ 256 }
     ensures other { result < length marks.now → nat_eq result start.0 ≡ false }
-    ensures passed { (m : ℕ) → from ≤ m → m < result → (not (nat_eq m start.0) && is_unsettled_by wishes.now.opened (mark_at marks.now m) turns m) ≡ false }
+    ensures passed { ArePassed marks.now turns start.0 from result best.now }
 {
-    let mut at = marks.next(from, turns);
-    while at < marks.len() {
-        let machine = MachineNo(at);
-        let looks = (at != start.0) & is_unsettled(wishes, marks, machine, turns);
-        if looks {
-            return at;
-        }
-        at = marks.next(at + 1, turns);
+    let limit = number_of_best(best);
+    let at = marks.next(from, limit, turns);
+    if at == start.0 && at < marks.len() {
+        return marks.next(at + 1, limit, turns);
     }
     at
 }
 
-// The least bound so far, or that of one machine more, which comes behind all others.
-fn lesser_of(least: Option<Least>, rank: Rank, machine: MachineNo) -> Option<Least>
+// The number of the least bound so far.
+fn number_of_least(least: &Option<Least>) -> u128
+    ensures { result ≡ number_in least.now }
+{
+    match least {
+        Some(one) => one.key,
+        None => number_of_none(),
+    }
+}
+
+// The least bound so far, or that of one machine more.
+fn lesser_of(least: Option<Least>, key: u128, machine: MachineNo) -> Option<Least>
     requires { IfSome least (λ x. x.machine.0 ≤ machine.0) }
     ensures kept { (k : MarkRecord) (t m : ℕ) → IsBehind k t m least → IsBehind k t m result }
-    ensures itself { (k : MarkRecord) (t : ℕ) → key_of k t ≡ Some (rank_of rank) → IsBehind k t machine.0 result }
+    ensures itself { (k : MarkRecord) (t : ℕ) → IsAbove k t machine.0 key → IsBehind k t machine.0 result }
     ensures there { IfSome result (λ x. x.machine.0 ≤ machine.0) }
 {
     match least {
         Some(one) => {
-            if is_earlier_here(&rank, &one.rank) {
-                Some(Least { rank, machine })
+            if key < one.key {
+                Some(Least { key, machine })
             } else {
                 Some(one)
             }
         }
-        None => Some(Least { rank, machine }),
+        None => Some(Least { key, machine }),
     }
 }
 
-// The same, where one machine more is asked for its bound: one that is closed or settled has none.
+// The same, where one machine more is asked for its bound: one that is closed has none.
 fn lesser_at(
     wishes: &Wishes,
     marks: &Marks,
@@ -645,22 +649,19 @@ fn lesser_at(
     if !wishes.is_open(machine) {
         return least;
     }
-    let Some(rank) = marks.at(machine.0).key(turns) else {
-        return least;
-    };
-    lesser_of(least, rank, machine)
+    lesser_of(least, marks.key(machine.0, turns), machine)
 }
 
-// The machine of least bound among those that are unsettled.
+// The machine of least bound among those that are unsettled: from one to the next of lesser bound.
 fn least_machine(wishes: &Wishes, marks: &Marks, turns: u64) -> Option<Least>
     ensures there { IfSome result (λ x. x.machine.0 < length marks.now) }
     ensures behind { AreBehind wishes.now.opened marks.now turns (length marks.now) result }
 {
     let mut least = None;
-    let mut at = marks.next(0, turns);
+    let mut at = marks.next(0, number_of_none(), turns);
     while at < marks.len() {
         least = lesser_at(wishes, marks, turns, MachineNo(at), least);
-        at = marks.next(at + 1, turns);
+        at = marks.next(at + 1, number_of_least(&least), turns);
     }
     least
 }
@@ -672,44 +673,33 @@ fn best_of_others<L: Ledger>(
     start: MachineNo,
     marks: &mut Marks,
     steps: &mut Steps<L>,
-    before: Option<Found>,
-) -> Option<Found>
+    best: &mut Option<Found>,
+)
     requires ready { CanSearch scene.now }
     requires marked { length marks.old ≡ length scene.now.table.now.cluster.machines }
     requires old { AreMarked scene.now marks.old }
-    requires seen { IsLeastOn scene.now before start.0 }
-    requires settled { before ≡ None → IsSettledBy scene.now start.0 (mark_at marks.old start.0) }
+    requires seen { IsLeastOn scene.now best.old start.0 }
+    requires settled { best.old ≡ None → IsSettledBy scene.now start.0 (mark_at marks.old start.0) }
     ensures marked { length marks.new ≡ length marks.old }
     ensures marks { AreMarked scene.now marks.new }
-    ensures least { (m : ℕ) → m < length scene.now.table.now.cluster.machines → IsLeastOn scene.now result m }
-    ensures found { IfSome before (λ x. IsFoundIn scene.now x) → IfSome result (λ x. IsFoundIn scene.now x) }
+    ensures least { (m : ℕ) → m < length scene.now.table.now.cluster.machines → IsLeastOn scene.now best.new m }
+    ensures found { IfSome best.old (λ x. IsFoundIn scene.now x) → IfSome best.new (λ x. IsFoundIn scene.now x) }
     ensures count { steps.new ≤ steps.old + count_below (λ m. not (nat_eq m start.0) && is_unsettled_by scene.now.wishes.now.opened (mark_at marks.old m) scene.now.turns m) (length scene.now.table.now.cluster.machines) }
-    ensures settled { result ≡ None → (m : ℕ) → m < length scene.now.table.now.cluster.machines → IsSettledBy scene.now m (mark_at marks.new m) }
+    ensures settled { best.new ≡ None → (m : ℕ) → m < length scene.now.table.now.cluster.machines → IsSettledBy scene.now m (mark_at marks.new m) }
 {
-    let mut best = before;
-    let mut at = next_other(scene.wishes, marks, start, 0, scene.turns);
+    let mut at = next_other(marks, start, 0, scene.turns, best);
     while at < marks.len() {
-        best = consider_at(scene, MachineNo(at), marks, steps, best);
-        at = next_other(scene.wishes, marks, start, at + 1, scene.turns);
+        consider_at(scene, MachineNo(at), marks, steps, best);
+        at = next_other(marks, start, at + 1, scene.turns, best);
     }
-    best
 }
 
-// Whether two ranks are the same.
-fn is_same_rank(a: &Rank, b: &Rank) -> bool
-    ensures { result ≡ true → rank_of a.now ≡ rank_of b.now }
-{
-    a.late == b.late && a.level == b.level && a.turn == b.turn
-}
-
-// Whether what was found on the machine of least bound has that bound for its rank, so that no other machine comes before it.
+// Whether what was found has a rank that is no later than the least bound, so that no other machine comes before it.
 fn is_decided(best: &Option<Found>, least: &Least) -> bool
-    ensures { result ≡ true → IsSomeAnd best.now (λ x. rank_with x ≡ rank_of least.now.rank ++ least.now.machine.0 ∷ []) }
+    ensures { result ≡ true → IsSomeAnd best.now (λ x. packed x.rank x.pick.machine.0 ≤ least.now.key) }
 {
     match best {
-        Some(found) => {
-            found.pick.machine.0 == least.machine.0 && is_same_rank(&found.rank, &least.rank)
-        }
+        Some(found) => number_of(found.rank, found.pick.machine.0) <= least.key,
         None => false,
     }
 }
@@ -734,11 +724,14 @@ fn best_from_least<L: Ledger>(
     ensures count { steps.new ≤ steps.old + count_below (λ m. is_unsettled_by scene.now.wishes.now.opened (mark_at marks.old m) scene.now.turns m) (length scene.now.table.now.cluster.machines) }
     ensures settled { result ≡ None → (m : ℕ) → m < length scene.now.table.now.cluster.machines → IsSettledBy scene.now m (mark_at marks.new m) }
 {
-    let best = consider_at(scene, least.machine, marks, steps, None);
+    let _machines = marks.len();
+    let mut best = None;
+    consider_at(scene, least.machine, marks, steps, &mut best);
     if is_decided(&best, &least) {
         return best;
     }
-    best_of_others(scene, least.machine, marks, steps, best)
+    best_of_others(scene, least.machine, marks, steps, &mut best);
+    best
 }
 
 /// The placeable pair of first rank, and `None` exactly where none is placeable. Each machine by whose mark a pair may be

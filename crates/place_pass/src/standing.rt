@@ -70,7 +70,7 @@ impl Wishes {
 }
 
 // The entry with which a unit waits.
-fn entry_for(wishes: &Wishes, turn_of: &Vec<u64>, app: AppNo, unit: UnitNo) -> Entry
+pub(crate) fn entry_for(wishes: &Wishes, turn_of: &Vec<u64>, app: AppNo, unit: UnitNo) -> Entry
     requires unit { unit.0 < length (get_or wishes.now.cells app.0 []) }
     requires places { length turn_of.now.items ≡ unit_places }
     ensures { result ≡ entry_for wishes.now.cells turn_of.now.items app.0 unit.0 }

@@ -15,6 +15,7 @@ ghost use Rattle.fuxi_terms.specs.Lists.{below};
 ghost use Rattle.place_pass.specs.DemandWalks.{IsPast, IsNextAsked};
 ghost use Rattle.place_pass.specs.Cells.{Cell, cell_of, cells_in, cells_of, cell_at, no_cell, fresh_cells, numbers_at, racks_at, taken, taken_all, is_gone, any_gone, asks_more, any_more};
 
+use crate::changes::write_changes;
 use cluster_desc::Cluster;
 use fuxi_terms::limits::{MOST_JOBS, MOST_RACKS, MOST_UNITS};
 use fuxi_terms::tally_keys::{AVOID, NEAR, RACK, WANT};
@@ -75,6 +76,7 @@ impl Wishes {
     ghost use Rattle.fuxi_terms.specs.Vectors.{fits};
     ghost use Rattle.place_pass.specs.Cells.{WishesRecord, AreWishes, Lifts, AvoidsStill, asks_in, cell_of, cell_at, cells_in, fresh_cells, taken, taken_all, any_more};
     ghost use Rattle.place_pass.specs.Placers.{is_open_to};
+    ghost use Rattle.place_pass.specs.DemandScopes.{AsksSameBut};
 
     /// No unit, and no open machine.
     pub(crate) fn start(alloc: Global, cluster: &Cluster) -> Result<Wishes, OutOfMemory>
@@ -117,6 +119,18 @@ impl Wishes {
         let counts = demand.entries();
         let units = &mut self.slots[app.0 as usize];
         take_over(units, &self.cluster, demand, differing)
+    }
+
+    /// The same, of a demand that asks otherwise than before only at keys that these changes name.
+    pub(crate) fn asked_at(&mut self, app: AppNo, demand: &Demand, changes: &[(Key, i64)]) -> bool
+        requires job { app.0 < most_jobs }
+        requires same { AsksSameBut changes.now self.old.cluster demand.now.entries (get_or self.old.cells app.0 []) }
+        ensures cells { self.new ≡ record self.old { cells = set self.old.cells app.0 (taken_all self.old.cluster demand.now.entries 0 (get_or self.old.cells app.0 [])) } }
+        ensures more { result ≡ any_more self.old.cluster demand.now.entries (get_or self.old.cells app.0 []) (length (get_or self.old.cells app.0 [])) }
+    {
+        let counts = demand.entries();
+        let units = &mut self.slots[app.0 as usize];
+        write_changes(units, &self.cluster, demand, changes)
     }
 
     /// The machine is open, or not.
@@ -484,7 +498,7 @@ fn has_some(numbers: &Vec<u32>) -> bool
 }
 
 // Writes a number. True where it is 0 and something stood there.
-fn put_number(numbers: &mut Vec<u32>, place: u32, number: u32) -> bool
+pub(crate) fn put_number(numbers: &mut Vec<u32>, place: u32, number: u32) -> bool
     requires { place < length numbers.old.items }
     ensures numbers { numbers.new.items ≡ set numbers.old.items place number }
     ensures gone { result ≡ is_gone (get_or numbers.old.items place 0) number }

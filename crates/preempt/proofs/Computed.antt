@@ -108,7 +108,7 @@ module _ (B : Board) (table : Table) (t : Spot) where
   abbrev pub spare_test : List Spot → Spot → ℕ → Bool
   spare_test set s i = not (nat_lt (usage_by B.groups B.sizes (B.groups s.job) i table) (quota_at B.cluster (B.groups s.job) i + part_by B.groups B.sizes (B.groups s.job) i set + B.sizes s.job s.unit i))
 
-  spared_below : (set : List Spot) (s : Spot) (k j : ℕ) → j < least_of k B.cluster.resources (spared_at B table set s k) → is_spared_in B table (set ++ so_many j s) s ≡ true
+  pub spared_below : (set : List Spot) (s : Spot) (k j : ℕ) → j < least_of k B.cluster.resources (spared_at B table set s k) → is_spared_in B table (set ++ so_many j s) s ≡ true
   spared_below set s k j lt = each_from B.cluster.resources (spare_test (set ++ so_many j s) s) (λ i i_lt.
       let gr = B.groups s.job in
       let size = B.sizes s.job s.unit i in

@@ -3,7 +3,7 @@ use Rattle.std.proofs.Common.{◌≡◌, ◌≢◌, ◌^◌, set, length-append,
 use Rattle.std.specs.Prelude.{◌&&◌, slice_index, replicate}
 use Rattle.std.specs.List.{AllByRecursion, sum_by}
 use Rattle.std.proofs.lemmas.Bool.Decides.{nat_tests}
-use Rattle.std.proofs.lemmas.List.{map-append, at_drop_more, length-set, get_or-replicate}
+use Rattle.std.proofs.lemmas.List.{map-append, at_drop_more, get_or-replicate}
 use Rattle.std.proofs.lemmas.List.Sums.{sum_by-cons, sum_by-append}
 use Rattle.fuxi_terms.specs.Jobs.{group_of, size_at, unit_of}
 use Rattle.fuxi_terms.specs.Keys.{Spot}
@@ -18,9 +18,10 @@ use Rattle.preempt.specs.declared.entry.Entry.{Entry}
 use Rattle.preempt.specs.declared.entry.Need.{Need}
 use Rattle.preempt.specs.declared.entry.GroupUse.{GroupUse}
 use Rattle.preempt.specs.declared.entry.Sums.{Sums}
+use Rattle.preempt.specs.declared.parts.Parts.{Parts}
 use Rattle.preempt.specs.Given.{board_of, no_group, written, IsEntry, IsNeed, IsGroup, AreGiven, recounted}
 use Rattle.preempt.specs.GrantNumbers.{needed_in_one, spared_in_one, total_in, part_in, needed_number, may_number}
-use Rattle.preempt.specs.GroupSums.{no_sums, ArePartsOf}
+use Rattle.preempt.specs.GroupSums.{no_sums, taken_at, ArePartsOf}
 use Rattle.preempt.proofs.Sums.{sum_many}
 
 pub greatest_same : (n : ℕ) (f g : ℕ → ℕ) → ((i : ℕ) → i < n → f i ≡ g i) → greatest_of n f ≡ greatest_of n g
@@ -220,65 +221,68 @@ pub part_first : (g i k : ℕ) (d : Entry) (set : List Entry) → k < length set
 part_first g i k d set lt = at_drop_more (part_in g i) set k d lt ∙ sum_by-cons (λ (e : Entry). cond (nat_eq e.group g) e.count 0 * slice_index e.size i) (get_or set k d) (drop (k + 1) set)
 
 -- sums by group, with one entry more
-pub parts_more : (parts : List Sums) (es : List Entry) (x : Entry) (y : Sums) → ArePartsOf parts es → x.group < 32
-    → ((i : ℕ) → i < 8 → slice_index y.q i ≡ slice_index (get_or parts x.group no_sums).q i + x.count * slice_index x.size i)
-    → ((i : ℕ) → i < 8 → slice_index y.q i ≤ slice_index (get_or parts x.group no_sums).q i + 2 ^ 96)
-    → ArePartsOf (set parts x.group y) (es ++ x ∷ [])
-parts_more parts es x y h inside is small =
-    let g = x.group in
-    let long = h.long in
-    let lt : g < length parts = omega (arith, inside, long) in
-    let more : length (es ++ x ∷ []) ≡ length es + 1 = length-append es (x ∷ []) in
-    record {
-      long = length-set parts g y ∙ long;
-      is = λ k i k_lt i_lt. by_is k i k_lt i_lt (nat_eq g k) refl lt;
-      small = λ k i k_lt i_lt. by_small k i k_lt i_lt (nat_eq g k) refl lt more;
-    }
+pub parts_more : (old new : Parts) (es : List Entry) (x : Entry) (part more : List ℕ) → ArePartsOf old es → x.group < 32
+    → ((i : ℕ) → i < 8 → slice_index part i ≡ taken_at old x.group i)
+    → ((i : ℕ) → i < 8 → slice_index more i ≡ slice_index part i + x.count * slice_index x.size i)
+    → ((i : ℕ) → i < 8 → slice_index more i ≤ slice_index part i + 2 ^ 96)
+    → ((g i : ℕ) → g < 32 → taken_at new g i ≡ cond (nat_eq x.group g) (slice_index more i) (taken_at old g i))
+    → ArePartsOf new (es ++ x ∷ [])
+parts_more old new es x part more h inside here is small put = record {
+  is = λ g i g_lt i_lt. by_is g i g_lt i_lt (nat_eq x.group g) refl;
+  small = λ g i g_lt i_lt. by_small g i g_lt i_lt (nat_eq x.group g) refl (length-append es (x ∷ []));
+}
   where
-    by_is : (k i : ℕ) → k < 32 → i < 8 → (b : Bool) → nat_eq x.group k ≡ b → x.group < length parts → slice_index (get_or (set parts x.group y) k no_sums).q i ≡ part_in k i (es ++ x ∷ [])
-    by_is k i k_lt i_lt true e lt =
-        let same : k ≡ x.group = grind (arith, nat_tests) in
-        let p = part_push k i es x in
-        let one : cond (nat_eq x.group k) x.count 0 * slice_index x.size i ≡ x.count * slice_index x.size i = ap (λ b. cond b x.count 0 * slice_index x.size i) e in
-        let a : get_or (set parts x.group y) k no_sums ≡ y = ap (λ j. get_or (set parts x.group y) j no_sums) same ∙ get_or-set_same parts x.group y no_sums lt in
-        let b = ap (λ (z : Sums). slice_index z.q i) a in
+    by_is : (g i : ℕ) → g < 32 → i < 8 → (b : Bool) → nat_eq x.group g ≡ b → taken_at new g i ≡ part_in g i (es ++ x ∷ [])
+    by_is g i g_lt i_lt true e =
+        let same : x.group ≡ g = grind (arith, nat_tests) in
+        let p = part_push g i es x in
+        let one : cond (nat_eq x.group g) x.count 0 * slice_index x.size i ≡ x.count * slice_index x.size i = ap (λ b. cond b x.count 0 * slice_index x.size i) e in
+        let a : taken_at new g i ≡ slice_index more i = put g i g_lt ∙ ap (λ b. cond b (slice_index more i) (taken_at old g i)) e in
         let d = is i i_lt in
-        let f = ap (λ j. slice_index (get_or parts j no_sums).q i) (sym same) ∙ h.is k i k_lt i_lt in
-        omega (arith, p, one, b, d, f)
-    by_is k i k_lt i_lt false e lt =
-        let other : k ≢ x.group = λ s. let t : nat_eq x.group k ≡ true = grind (arith, nat_tests) in cc in
-        let p = part_push k i es x in
-        let none : cond (nat_eq x.group k) x.count 0 * slice_index x.size i ≡ 0 = ap (λ b. cond b x.count 0 * slice_index x.size i) e ∙ omega arith in
-        let b = ap (λ (z : Sums). slice_index z.q i) (get_or-set_other parts x.group k y no_sums other) in
-        let f = h.is k i k_lt i_lt in
-        omega (arith, p, none, b, f)
+        let f = here i i_lt ∙ ap (λ j. taken_at old j i) same ∙ h.is g i g_lt i_lt in
+        omega (arith, p, one, a, d, f)
+    by_is g i g_lt i_lt false e =
+        let p = part_push g i es x in
+        let none : cond (nat_eq x.group g) x.count 0 * slice_index x.size i ≡ 0 = ap (λ b. cond b x.count 0 * slice_index x.size i) e ∙ omega arith in
+        let a : taken_at new g i ≡ taken_at old g i = put g i g_lt ∙ ap (λ b. cond b (slice_index more i) (taken_at old g i)) e in
+        let f = h.is g i g_lt i_lt in
+        omega (arith, p, none, a, f)
 
-    by_small : (k i : ℕ) → k < 32 → i < 8 → (b : Bool) → nat_eq x.group k ≡ b → x.group < length parts → length (es ++ x ∷ []) ≡ length es + 1 → slice_index (get_or (set parts x.group y) k no_sums).q i ≤ length (es ++ x ∷ []) * 2 ^ 96
-    by_small k i k_lt i_lt true e lt more =
-        let same : k ≡ x.group = grind (arith, nat_tests) in
-        let b = ap (λ (z : Sums). slice_index z.q i) (ap (λ j. get_or (set parts x.group y) j no_sums) same ∙ get_or-set_same parts x.group y no_sums lt) in
+    by_small : (g i : ℕ) → g < 32 → i < 8 → (b : Bool) → nat_eq x.group g ≡ b → length (es ++ x ∷ []) ≡ length es + 1 → taken_at new g i ≤ length (es ++ x ∷ []) * 2 ^ 96
+    by_small g i g_lt i_lt true e longer =
+        let a : taken_at new g i ≡ slice_index more i = put g i g_lt ∙ ap (λ b. cond b (slice_index more i) (taken_at old g i)) e in
         let d = small i i_lt in
+        let s = here i i_lt in
         let f = h.small x.group i inside i_lt in
-        omega (arith, more, b, d, f)
-    by_small k i k_lt i_lt false e lt more =
-        let other : k ≢ x.group = λ s. let t : nat_eq x.group k ≡ true = grind (arith, nat_tests) in cc in
-        let b = ap (λ (z : Sums). slice_index z.q i) (get_or-set_other parts x.group k y no_sums other) in
-        let f = h.small k i k_lt i_lt in
-        omega (arith, more, b, f)
+        omega (arith, longer, a, d, s, f)
+    by_small g i g_lt i_lt false e longer =
+        let a : taken_at new g i ≡ taken_at old g i = put g i g_lt ∙ ap (λ b. cond b (slice_index more i) (taken_at old g i)) e in
+        let f = h.small g i g_lt i_lt in
+        omega (arith, longer, a, f)
 
 -- sums of nothing
 pub zeros_at : (i : ℕ) → i < 8 → ◌≡◌ {A = ℕ} (get_or (replicate 8 0) i 0) 0
 zeros_at i lt = get_or-replicate 8 i 0 0 lt
 
-pub parts_start : ArePartsOf (replicate 32 (record { q = replicate 8 0 })) []
-parts_start = record {
-  long = refl;
-  is = λ g i g_lt i_lt. at g i g_lt i_lt;
-  small = λ g i g_lt i_lt. let z = at g i g_lt i_lt in omega (arith, z);
+pub parts_start : (sums : List Sums) → ArePartsOf (record { begun = replicate 32 false; sums = sums }) []
+parts_start sums = record {
+  is = λ g i g_lt i_lt. at g i g_lt;
+  small = λ g i g_lt i_lt. let z = at g i g_lt in omega (arith, z);
 }
   where
-    none : Sums
-    none = record { q = replicate 8 0 }
+    at : (g i : ℕ) → g < 32 → taken_at (record { begun = replicate 32 false; sums = sums }) g i ≡ 0
+    at g i g_lt = ap (λ b. cond b (slice_index (get_or sums g no_sums).q i) 0) (get_or-replicate 32 g false false g_lt)
 
-    at : (g i : ℕ) → g < 32 → i < 8 → ◌≡◌ {A = ℕ} (get_or (get_or (replicate 32 none) g no_sums).q i 0) 0
-    at g i g_lt i_lt = ap (λ (x : Sums). get_or x.q i 0) (get_or-replicate 32 g none no_sums g_lt) ∙ zeros_at i i_lt
+-- what is taken of a group, and of the others, once one is put
+pub part_put : (p : Parts) (g : ℕ) (q : List ℕ) → g < length p.begun → g < length p.sums
+    → (k i : ℕ) → k < 32 → taken_at (record { begun = set p.begun g true; sums = set p.sums g (record { q = q }) }) k i ≡ cond (nat_eq g k) (slice_index q i) (taken_at p k i)
+part_put p g q begun sums k i k_lt = by (nat_eq g k) refl
+  where
+    by : (b : Bool) → nat_eq g k ≡ b → taken_at (record { begun = set p.begun g true; sums = set p.sums g (record { q = q }) }) k i ≡ cond b (slice_index q i) (taken_at p k i)
+    by true e =
+        let same : g ≡ k = grind (arith, nat_tests) in
+        subst (λ j. taken_at (record { begun = set p.begun g true; sums = set p.sums g (record { q = q }) }) j i ≡ slice_index q i) same
+        (λ j. cond (get_or-set_same p.begun g true false begun j) (slice_index (get_or-set_same p.sums g (record { q = q }) no_sums sums j).q i) 0)
+    by false e =
+        let other : k ≢ g = λ s. let t : nat_eq g k ≡ true = grind (arith, nat_tests) in cc in
+        λ j. cond (get_or-set_other p.begun g k true false other j) (slice_index (get_or-set_other p.sums g k (record { q = q }) no_sums other j).q i) 0

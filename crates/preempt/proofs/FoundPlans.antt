@@ -74,14 +74,6 @@ module _ (tab : TableRecord) (t : Spot) where
       pub sums_are : (i : ℕ) → i < 8 → slice_index sums i ≡ total_in i set
       pub own_are : (i : ℕ) → i < 8 → slice_index own i ≡ part_in n.group i set
 
-    -- where the sums are of what was lent of the set
-    pub is_ready : n.resources ≤ 8 → (all part : List Entry) → all ≡ set → part ≡ set → ((i : ℕ) → i < 8 → slice_index sums i ≡ total_in i all) → ((i : ℕ) → i < 8 → slice_index own i ≡ part_in n.group i part) → IsReady
-    is_ready few all part same alike totals parts = record {
-      few = few;
-      sums_are = λ i lt. totals i lt ∙ ap (λ x. total_in i x) same;
-      own_are = λ i lt. parts i lt ∙ ap (λ x. part_in n.group i x) alike;
-    }
-
     pub not_enough : IsReady → AreGiven tab t entries n groups → T (is_sorted spot_cmp tab.entries) → IsTaken tab t entries set → are_enough n sums own ≡ false → victims_in (board_of tab) tab.entries t ≡ None
     not_enough r given k taken h =
         let s = map (written t.machine) set in

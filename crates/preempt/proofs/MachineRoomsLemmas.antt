@@ -27,7 +27,7 @@ use Rattle.preempt.specs.Shelves.{IsShelf, IsWanted}
 use Rattle.preempt.proofs.Sums.{not_fit, not_allowed}
 use Rattle.preempt.proofs.CountedAsWritten.{size_is}
 use Rattle.preempt.proofs.MostTaken.{most_in, counted_most, most_whole, none_of_most, lower_weight, spared_weight, AreMostSums, most_sums}
-use Rattle.preempt.proofs.SparedAsWritten.{lower_is, spared_is}
+use Rattle.preempt.proofs.SparedAsWritten.{lower_is, spared_is, some_weigh, nothing_weighs}
 use Rattle.preempt.proofs.UnitSteps.{got}
 
 -- ---- one machine
@@ -35,25 +35,26 @@ use Rattle.preempt.proofs.UnitSteps.{got}
 pub record AreLeft (groups : List GroupUse) (shelf : Shelf) (n : Need) (room : List ℕ) : Type 0 where
   pub lower : List ℕ
   pub all : List ℕ
-  pub fits : List ℕ
-  pub allowed : List ℕ
   pub lower_are : (i : ℕ) → i < 8 → slice_index lower i ≡ lower_in n i shelf.entries.items
   pub all_are : (i : ℕ) → i < 8 → slice_index all i ≡ slice_index lower i + spared_in n i shelf.spared.items
-  pub fits_are : (i : ℕ) → i < 8 → slice_index fits i ≡ (slice_index shelf.has i + slice_index all i) - slice_index shelf.used i
-  pub allowed_are : (i : ℕ) → i < 8 → slice_index allowed i ≡ (slice_index (get_or groups n.group no_group).limit i + slice_index lower i) - slice_index (get_or groups n.group no_group).used i
-  pub room_are : (i : ℕ) → i < 8 → slice_index room i ≡ min (slice_index fits i) (slice_index allowed i)
+  pub room_are : (i : ℕ) → i < n.resources → slice_index room i ≡ min ((slice_index shelf.has i + slice_index all i) - slice_index shelf.used i)
+      ((slice_index (get_or groups n.group no_group).limit i + slice_index lower i) - slice_index (get_or groups n.group no_group).used i)
 
 pub beyond_none : (t : TableRecord) (groups : List GroupUse) (m : ℕ) (shelf : Shelf) (n : Need) (room : List ℕ) (a u i : ℕ)
     → AreGroups t groups → IsShelf t groups m shelf → AreLeft groups shelf n room → n.group < 32 → n.group ≡ group_of (as_known t.jobs) a → n.priority ≡ priority_of (as_known t.jobs) a u
-    → n.guaranteed ≡ is_guaranteed_in (board_of t) t.entries (spot a u m) → i < t.cluster.resources → i < 8 → slice_index room i < size_at (as_known t.jobs) a u i → victims_in (board_of t) t.entries (spot a u m) ≡ None
-beyond_none t groups m shelf n room a u i are is left small group priority guaranteed lt few more =
-    none_of_most (board_of t) t.entries s (ap (λ x. is_enough_in (board_of t) t.entries s x) whole ∙ by (nat_lt (slice_index left.fits i) size) refl)
+    → n.guaranteed ≡ is_guaranteed_in (board_of t) t.entries (spot a u m) → i < t.cluster.resources → i < 8 → i < n.resources → slice_index room i < size_at (as_known t.jobs) a u i → victims_in (board_of t) t.entries (spot a u m) ≡ None
+beyond_none t groups m shelf n room a u i are is left small group priority guaranteed lt few inside more =
+    none_of_most (board_of t) t.entries s (ap (λ x. is_enough_in (board_of t) t.entries s x) whole ∙ by (nat_lt fits size) refl)
   where
     s : Spot
     s = spot a u m
 
     size : ℕ
     size = size_at (as_known t.jobs) a u i
+
+    -- what the machine has left
+    fits : ℕ
+    fits = (slice_index shelf.has i + slice_index left.all i) - slice_index shelf.used i
 
     entries : Table
     entries = map (written m) shelf.entries.items
@@ -72,11 +73,12 @@ beyond_none t groups m shelf n room a u i are is left small group priority guara
 
     spared : spared_in n i shelf.spared.items ≡ sum_by (spared_weight (board_of t) t.entries s i) (all_spared entries (board_of t) t.entries [])
     spared = spared_is t m a u n i group guaranteed shelf.spared.items is.spared.each ∙ ap (λ es. sum_by (spared_weight (board_of t) t.entries s i) es) is.spared.counted
+        ∙ some_weigh (spared_weight (board_of t) t.entries s i) (nothing_weighs (board_of t) t.entries s i) (all_spared entries (board_of t) t.entries [])
 
-    by : (b : Bool) → nat_lt (slice_index left.fits i) size ≡ b → is_enough_in (board_of t) t.entries s all ≡ false
+    by : (b : Bool) → nat_lt fits size ≡ b → is_enough_in (board_of t) t.entries s all ≡ false
     by true e =
-        let less : slice_index left.fits i < size = grind (arith, nat_tests, e) in
-        let f = left.fits_are i few in
+        let less : fits < size = grind (arith, nat_tests, e) in
+        let f : fits ≡ (slice_index shelf.has i + slice_index left.all i) - slice_index shelf.used i = refl in
         let x = left.all_are i few in
         let w = sums.whole in
         let z : set_by (size_at (as_known t.jobs)) i (singles []) ≡ 0 = refl in
@@ -85,9 +87,9 @@ beyond_none t groups m shelf n room a u i are is left small group priority guara
         let short : has_at t.cluster m i + set_by (size_at (as_known t.jobs)) i all < total_at (as_known t.jobs) m i t.entries + size = omega (arith, less, f, x, w, z, lower, spared, h, v) in
         not_fit (board_of t) t.entries s all i lt short
     by false e =
-        let le : size ≤ slice_index left.fits i = grind (arith, nat_tests, e) in
-        let r = left.room_are i few in
-        let f = left.allowed_are i few in
+        let le : size ≤ fits = grind (arith, nat_tests, e) in
+        let r = left.room_are i inside in
+        let f : fits ≡ (slice_index shelf.has i + slice_index left.all i) - slice_index shelf.used i = refl in
         let g = group_of (as_known t.jobs) a in
         let w = sums.own in
         let z : part_by (group_of (as_known t.jobs)) (size_at (as_known t.jobs)) g i (singles []) ≡ 0 = refl in

@@ -106,10 +106,19 @@ not_both Nobody g h d a b = cc
 not_both Several g h d a b = cc
 not_both (One x) g h d a b = let e = number_is x g a in let f : nat_eq x h ≡ true = not_false (nat_eq x h) b in let k = number_is x h f in let t : nat_eq g h ≡ true = grind (arith, nat_tests, e, k) in cc
 
+-- a need of the kind of a unit: all that tells what may be taken for it
+pub record IsLike (t : TableRecord) (s : Spot) (n : Need) : Type 0 where
+  pub group : n.group ≡ group_of (as_known t.jobs) s.job
+  pub priority : n.priority ≡ priority_of (as_known t.jobs) s.job s.unit
+  pub guaranteed : n.guaranteed ≡ is_guaranteed_in (board_of t) t.entries s
+
+pub wanted_like : (t : TableRecord) (a u m : ℕ) (n : Need) → IsWanted t a u n → IsLike t (spot a u m) n
+wanted_like t a u m n w = record { group = w.group; priority = w.priority; guaranteed = w.guaranteed }
+
 module _ (t : TableRecord) (groups : List GroupUse) (are : AreGroups t groups) (few : t.cluster.resources ≤ 8) where
   -- a group spares one grant beside nothing
-  spared_is : (m : ℕ) (e : Entry) → IsEntry t e → is_spared_in (board_of t) t.entries [] (spot e.app.0 e.unit.0 m) ≡ spares t.cluster.resources (get_or groups e.group no_group) e.size
-  spared_is m e h =
+  pub spares_beside : (m : ℕ) (e : Entry) → IsEntry t e → is_spared_in (board_of t) t.entries [] (spot e.app.0 e.unit.0 m) ≡ spares t.cluster.resources (get_or groups e.group no_group) e.size
+  spares_beside m e h =
       let g = are.each e.group h.small in
       let gr = group_of (as_known t.jobs) e.app.0 in
       let x = get_or groups e.group no_group in
@@ -121,7 +130,7 @@ module _ (t : TableRecord) (groups : List GroupUse) (are : AreGroups t groups) (
       let z : quota_at t.cluster gr i + 0 + size_at (as_known t.jobs) e.app.0 e.unit.0 i ≡ slice_index x.quota i + slice_index e.size i = omega (arith, q, s) in
       λ k. not (nat_lt (sym u k) (z k)))
 
-  closed_entry : (s : Spot) (n : Need) (lowest : List ℕ) (loose : Loose) (e : Entry) → IsWanted t s.job s.unit n → may_take_some n lowest loose ≡ false → IsEntry t e → IsLow lowest e → IsLoose t.cluster.resources groups loose e
+  closed_entry : (s : Spot) (n : Need) (lowest : List ℕ) (loose : Loose) (e : Entry) → IsLike t s n → may_take_some n lowest loose ≡ false → IsEntry t e → IsLow lowest e → IsLoose t.cluster.resources groups loose e
       → may_take_in (board_of t) t.entries s [] (spot e.app.0 e.unit.0 s.machine) ≡ false
   closed_entry s n lowest loose e w none h low is_loose_here = by (nat_eq (group_of (as_known t.jobs) e.app.0) (group_of (as_known t.jobs) s.job)) refl
     where
@@ -138,7 +147,7 @@ module _ (t : TableRecord) (groups : List GroupUse) (are : AreGroups t groups) (
       other false b e f d = refl
       other true false e f d = refl
       other true true sp gu d =
-          let l : is_loose loose e.group ≡ true = is_loose_here.loosened (sym (spared_is s.machine e h) ∙ sp) in
+          let l : is_loose loose e.group ≡ true = is_loose_here.loosened (sym (spares_beside s.machine e h) ∙ sp) in
           let o : is_other_loose loose n.group ≡ false = ap (λ b. b && is_other_loose loose n.group) (sym gu) ∙ both.1 in
           let d' : nat_eq e.group n.group ≡ false = (λ k. nat_eq (h.group k) (w.group k)) ∙ d in
           absurd (not_both loose e.group n.group d' l o)
@@ -157,12 +166,12 @@ module _ (t : TableRecord) (groups : List GroupUse) (are : AreGroups t groups) (
           grind (arith, nat_tests, ge)
       by false d = ap (λ b. spared && b) (sym w.guaranteed) ∙ other spared n.guaranteed refl refl d
 
-  closed_all : (s : Spot) (n : Need) (lowest : List ℕ) (loose : Loose) (es : List Entry) → IsWanted t s.job s.unit n → may_take_some n lowest loose ≡ false → AllByRecursion (IsEntry t) es → AllByRecursion (IsLow lowest) es → AllByRecursion (IsLoose t.cluster.resources groups loose) es
+  closed_all : (s : Spot) (n : Need) (lowest : List ℕ) (loose : Loose) (es : List Entry) → IsLike t s n → may_take_some n lowest loose ≡ false → AllByRecursion (IsEntry t) es → AllByRecursion (IsLow lowest) es → AllByRecursion (IsLoose t.cluster.resources groups loose) es
       → AllByRecursion (λ (e : Entry). may_take_in (board_of t) t.entries s [] (spot e.app.0 e.unit.0 s.machine) ≡ false) es
   closed_all s n lowest loose [] w none h low ls = tt
   closed_all s n lowest loose (e ∷ es) w none h low ls = (closed_entry s n lowest loose e w none h.0 low.0 ls.0, closed_all s n lowest loose es w none h.1 low.1 ls.1)
 
-  pub none_to_take : (s : Spot) (n : Need) (shelf : Shelf) → IsShelf t groups s.machine shelf → IsWanted t s.job s.unit n → may_take_some n shelf.lowest shelf.loose ≡ false → victims_in (board_of t) t.entries s ≡ None
+  pub none_to_take : (s : Spot) (n : Need) (shelf : Shelf) → IsShelf t groups s.machine shelf → IsLike t s n → may_take_some n shelf.lowest shelf.loose ≡ false → victims_in (board_of t) t.entries s ≡ None
   none_to_take s n shelf is w none = closed_none (board_of t) t.entries s
       (subst (λ xs. AllByRecursion (λ x. may_take_in (board_of t) t.entries s [] x ≡ false) (singles xs)) is.walk
       (closed_singles (λ x. may_take_in (board_of t) t.entries s [] x ≡ false) s.machine shelf.entries.items (closed_all s n shelf.lowest shelf.loose shelf.entries.items w none is.each is.low is.loose_are)))
@@ -175,5 +184,5 @@ module _ (t : TableRecord) (groups : List GroupUse) (are : AreGroups t groups) (
         let s = spot a u m in
         closed_none (board_of t) t.entries s
         (subst (λ xs. AllByRecursion (λ x. may_take_in (board_of t) t.entries s [] x ≡ false) (singles xs)) (are.lists m)
-        (closed_listed (λ x. may_take_in (board_of t) t.entries s [] x ≡ false) t.entries m holders (closed_all s n lowest loose holders w none are.each low ls)));
+        (closed_listed (λ x. may_take_in (board_of t) t.entries s [] x ≡ false) t.entries m holders (closed_all s n lowest loose holders (wanted_like t a u m n w) none are.each low ls)));
   }

@@ -1,11 +1,12 @@
 -- One step of each loop that lists units.
-use Rattle.std.proofs.Common.{◌≡◌, ℕ, zero, suc, ◌+◌, ◌-◌, ◌<◌, ◌≤◌, Bool, true, false, cond, nat_eq, nat_lt, List, [], ◌∷◌, ◌++◌, length, map, filter, get_or, take, Some, refl, sym, ◌∙◌, ap, arith, append_assoc}
+use Rattle.std.proofs.Common.{subst, ◌≡◌, ℕ, zero, suc, ◌+◌, ◌-◌, ◌<◌, ◌≤◌, Bool, true, false, cond, nat_eq, nat_lt, List, [], ◌∷◌, ◌++◌, length, map, filter, get_or, take, Some, refl, sym, ◌∙◌, ap, arith, append_assoc}
 use Rattle.std.specs.Prelude.{◌&&◌, slice_get, Option}
 use Rattle.std.specs.Option.{unwrap_or, option_map}
 use Rattle.std.specs.List.{AllByRecursion, flat_map}
 use Rattle.std.specs.Ordering.{eq_by_cmp}
 use Rattle.std.specs.FinMap.Entries.{find}
 use Rattle.std.proofs.lemmas.Bool.Decides.{nat_tests}
+use Rattle.std.proofs.lemmas.List.Elements.{filter-append}
 use Rattle.std.proofs.lemmas.List.Sums.{sum_by-cons}
 use Rattle.std.proofs.lemmas.Grind.{flat_map-append}
 use Rattle.std.proofs.lemmas.List.{append-nil, map-append, length-map}
@@ -87,21 +88,21 @@ pairs_backward t n (e ∷ es) h =
     one true = refl
     one false = refl
 
-pub pairs_ordered : (t : TableRecord) (es : List Entry) → AllByRecursion (IsEntry t) es → (n : ℕ) → map pair_of (entries_by_priority es n) ≡ pairs_by_priority (priority_of (as_known t.jobs)) (map pair_of es) n
+pairs_ordered : (t : TableRecord) (es : List Entry) → AllByRecursion (IsEntry t) es → (n : ℕ) → map pair_of (entries_by_priority es n) ≡ pairs_by_priority (priority_of (as_known t.jobs)) (map pair_of es) n
 pairs_ordered t es h n = over (below n)
   where
     over : (ks : List ℕ) → map pair_of (flat_map (λ p. backward (of_priority p) es) ks) ≡ flat_map (λ k. backward (λ (p : Pair). nat_eq (priority_of (as_known t.jobs) p.0 p.1) k) (map pair_of es)) ks
     over [] = refl
     over (k ∷ ks) = let a = pairs_backward t k es h in let r = over ks in map-append pair_of (backward (of_priority k) es) (flat_map (λ p. backward (of_priority p) es) ks) ∙ (λ i. a i ++ r i)
 
-pub all_ordered : (P : Entry → Type 0) (es : List Entry) → AllByRecursion P es → (n : ℕ) → AllByRecursion P (entries_by_priority es n)
+all_ordered : (P : Entry → Type 0) (es : List Entry) → AllByRecursion P es → (n : ℕ) → AllByRecursion P (entries_by_priority es n)
 all_ordered P es h n = over (below n)
   where
     over : (ks : List ℕ) → AllByRecursion P (flat_map (λ p. backward (of_priority p) es) ks)
     over [] = tt
     over (k ∷ ks) = all_append P (backward (of_priority k) es) (flat_map (λ p. backward (of_priority p) es) ks) (backward_all (of_priority k) P es h) (over ks)
 
-pub ordered_few : (t : TableRecord) → IsSound t → (es : List Entry) → map pair_of es ≡ pairs_by_priority (priority_of (as_known t.jobs)) (all_units t.jobs) 10 → length es ≤ 1000000
+ordered_few : (t : TableRecord) → IsSound t → (es : List Entry) → map pair_of es ≡ pairs_by_priority (priority_of (as_known t.jobs)) (all_units t.jobs) 10 → length es ≤ 1000000
 ordered_few t s es is =
     let a : length (map pair_of es) ≡ length es = length-map es pair_of in
     let b = ap length is in
@@ -166,9 +167,45 @@ filter_few : (test : Entry → Bool) (es : List Entry) → length (filter test e
 filter_few test [] = omega arith
 filter_few test (e ∷ es) = let r = filter_few test es in elim (test e) as (λ b. length (cond b (e ∷ filter test es) (filter test es)) ≤ length (e ∷ es)) [ true ↦ omega (arith, r) | false ↦ omega (arith, r) ]
 
-pub holders_are : (t : TableRecord) → IsSound t → (units : List Entry) → map pair_of units ≡ pairs_by_priority (priority_of (as_known t.jobs)) (all_units t.jobs) 10 → AllByRecursion (IsEntry t) units → length units ≤ 1000000 → AreHolders t (filter (holds_some t.entries) units)
+holders_are : (t : TableRecord) → IsSound t → (units : List Entry) → map pair_of units ≡ pairs_by_priority (priority_of (as_known t.jobs)) (all_units t.jobs) 10 → AllByRecursion (IsEntry t) units → length units ≤ 1000000 → AreHolders t (filter (holds_some t.entries) units)
 holders_are t s units is each few = record {
   each = all_filter (IsEntry t) (holds_some t.entries) units each;
   few = let l = filter_few (holds_some t.entries) units in omega (arith, l, few);
   lists = λ m. holders_listed t.entries m units ∙ ap (flat_map (entry_on t.entries m)) is ∙ sym (walk_is t s m);
 }
+
+-- ---- the order of those that pass a test
+module _ (test : Entry → Bool) where
+  backward_passed : (of : Entry → Bool) (es : List Entry) → backward of (filter test es) ≡ filter test (backward of es)
+  backward_passed of [] = refl
+  backward_passed of (e ∷ es) = by (test e) refl (backward_passed of es) ∙ sym (filter-append test (backward of es) (cond (of e) (e ∷ []) []))
+    where
+      one : (b d : Bool) → test e ≡ b → filter test (cond d (e ∷ []) []) ≡ cond b (cond d (e ∷ []) []) []
+      one true false is = refl
+      one false false is = refl
+      one true true is = ap (λ b. cond b (e ∷ []) []) is
+      one false true is = ap (λ b. cond b (e ∷ []) []) is
+
+      by : (b : Bool) → test e ≡ b → backward of (filter test es) ≡ filter test (backward of es)
+          → backward of (filter test (e ∷ es)) ≡ filter test (backward of es) ++ filter test (cond (of e) (e ∷ []) [])
+      by true is rest =
+          ap (λ b. backward of (cond b (e ∷ filter test es) (filter test es))) is
+          ∙ ap (λ xs. xs ++ cond (of e) (e ∷ []) []) rest
+          ∙ ap (λ xs. filter test (backward of es) ++ xs) (sym (one true (of e) is))
+      by false is rest =
+          ap (λ b. backward of (cond b (e ∷ filter test es) (filter test es))) is
+          ∙ rest ∙ sym (append-nil (filter test (backward of es)))
+          ∙ ap (λ xs. filter test (backward of es) ++ xs) (sym (one false (of e) is))
+
+  order_passed : (es : List Entry) (n : ℕ) → entries_by_priority (filter test es) n ≡ filter test (entries_by_priority es n)
+  order_passed es n = over (below n)
+    where
+      over : (ks : List ℕ) → flat_map (λ p. backward (of_priority p) (filter test es)) ks ≡ filter test (flat_map (λ p. backward (of_priority p) es) ks)
+      over [] = refl
+      over (k ∷ ks) = let a = backward_passed (of_priority k) es in let r = over ks in (λ i. a i ++ r i) ∙ sym (filter-append test (backward (of_priority k) es) (flat_map (λ p. backward (of_priority p) es) ks))
+
+pub holders_ordered : (t : TableRecord) → IsSound t → (units : List Entry) → map pair_of units ≡ all_units t.jobs → AllByRecursion (IsEntry t) units → AreHolders t (entries_by_priority (filter (holds_some t.entries) units) 10)
+holders_ordered t s units is each =
+    let ordered = entries_by_priority units 10 in
+    let pairs : map pair_of ordered ≡ pairs_by_priority (priority_of (as_known t.jobs)) (all_units t.jobs) 10 = pairs_ordered t units each 10 ∙ ap (λ ps. pairs_by_priority (priority_of (as_known t.jobs)) ps 10) is in
+    subst (AreHolders t) (sym (order_passed (holds_some t.entries) units 10)) (holders_are t s ordered pairs (all_ordered (IsEntry t) units each 10) (ordered_few t s ordered pairs))

@@ -1,5 +1,5 @@
 -- Victims by counts: of equal grants a computed number is taken at once, and a computed number of them is kept.
-use Rattle.std.specs.Prelude.{ℕ, zero, suc, ◌+◌, ◌-◌, ◌/◌, min, max, cond, nat_eq, nat_lt, ◌&&◌, List, [], ◌∷◌, ◌++◌, filter, Option, Some, None, true, false}
+use Rattle.std.specs.Prelude.{ℕ, zero, suc, ◌+◌, ◌-◌, ◌/◌, min, max, Bool, cond, nat_eq, nat_lt, ◌&&◌, List, [], ◌∷◌, ◌++◌, filter, Option, Some, None, true, false}
 use Rattle.std.specs.List.{flat_map}
 use Rattle.fuxi_terms.specs.Cluster.{has_at, limit_at, quota_at}
 use Rattle.fuxi_terms.specs.Keys.{Spot}
@@ -67,6 +67,10 @@ all_spared [] B table set = []
 all_spared (e ∷ es) B table set =
     (e.0, least_of e.1 B.cluster.resources (spared_at B table (singles set) e.0 e.1))
     ∷ all_spared es B table (set ++ (e.0, least_of e.1 B.cluster.resources (spared_at B table (singles set) e.0 e.1)) ∷ [])
+
+-- whether an entry has any grants
+abbrev pub counts_some : Spot × ℕ → Bool
+counts_some e = nat_lt 0 e.1
 
 -- Kept: of each entry in the same order as few as make all the others enough
 abbrev pub counted_kept : Table → Board → Table → Spot → Table → Table

@@ -1,5 +1,5 @@
 -- What the program's entries, needs, groups and shelves stand for.
-use Rattle.std.specs.Prelude.{◌≡◌, ℕ, ◌+◌, ◌<◌, Bool, true, false, List, [], length, map, get_or, slice_index}
+use Rattle.std.specs.Prelude.{◌≡◌, ℕ, ◌+◌, ◌<◌, Bool, true, false, List, [], length, map, filter, get_or, slice_index}
 use Rattle.std.specs.List.{AllByRecursion}
 use Rattle.fuxi_terms.specs.Cluster.{has_at, limit_at, quota_at, is_narrow}
 use Rattle.fuxi_terms.specs.Keys.{Spot, Pair}
@@ -8,7 +8,7 @@ use Rattle.fuxi_terms.specs.Tables.{spot, total_at, usage_at}
 use Rattle.written_roles.specs.Placing.{Board}
 use Rattle.written_roles.specs.Preemption.{is_guaranteed_in}
 use Rattle.grant_table.specs.GrantTables.{TableRecord, as_known}
-use Rattle.preempt.specs.Counted.{entries_on, counted_taken, counted_kept, all_spared}
+use Rattle.preempt.specs.Counted.{entries_on, counted_taken, counted_kept, all_spared, counts_some}
 use Rattle.preempt.specs.declared.plan.Victim.{Victim}
 use Rattle.preempt.specs.declared.entry.Entry.{Entry}
 use Rattle.preempt.specs.declared.entry.Need.{Need}
@@ -83,10 +83,10 @@ pub record AreGiven (t : TableRecord) (s : Spot) (entries : List Entry) (n : Nee
 abbrev pub victim_of : Entry → Victim
 victim_of e = record { app = e.app; unit = e.unit; count = e.count }
 
--- of entries on a machine what their groups spare, whoever it is for
+-- of entries on a machine what their groups spare, whoever it is for, where they spare any
 pub record AreSpared (t : TableRecord) (m : ℕ) (entries spared : List Entry) : Type 0 where
   pub each : AllByRecursion (IsEntry t) spared
-  pub counted : map (written m) spared ≡ all_spared (map (written m) entries) (board_of t) t.entries []
+  pub counted : map (written m) spared ≡ filter counts_some (all_spared (map (written m) entries) (board_of t) t.entries [])
 
 -- what is taken of entries, and what is kept of that
 pub record IsTaken (t : TableRecord) (s : Spot) (entries set : List Entry) : Type 0 where

@@ -1,14 +1,26 @@
 -- Sums by group.
-use Rattle.std.specs.Prelude.{◌≡◌, ℕ, ◌*◌, ◌^◌, ◌<◌, ◌≤◌, List, [], length, get_or, slice_index}
+use Rattle.std.specs.Prelude.{◌≡◌, ℕ, ◌*◌, ◌^◌, ◌<◌, ◌≤◌, cond, false, List, [], length, get_or, slice_index}
 use Rattle.preempt.specs.declared.entry.Entry.{Entry}
 use Rattle.preempt.specs.declared.entry.Sums.{Sums}
-use Rattle.preempt.specs.GrantNumbers.{part_in}
+use Rattle.preempt.specs.declared.parts.Parts.{Parts}
+use Rattle.preempt.specs.declared.victims.Taken.{Taken}
+use Rattle.preempt.specs.GrantNumbers.{total_in, part_in}
 
 abbrev pub no_sums : Sums
 no_sums = record { q = [] }
 
+-- what is taken of a group in one resource: nothing where it has not begun
+abbrev pub taken_at : Parts → ℕ → ℕ → ℕ
+taken_at p g i = cond (get_or p.begun g false) (slice_index (get_or p.sums g no_sums).q i) 0
+
 -- for each group what a set takes of it
-pub record ArePartsOf (parts : List Sums) (set : List Entry) : Type 0 where
-  pub long : length parts ≡ 32
-  pub is : (g i : ℕ) → g < 32 → i < 8 → slice_index (get_or parts g no_sums).q i ≡ part_in g i set
-  pub small : (g i : ℕ) → g < 32 → i < 8 → slice_index (get_or parts g no_sums).q i ≤ length set * 2 ^ 96
+pub record ArePartsOf (parts : Parts) (set : List Entry) : Type 0 where
+  pub is : (g i : ℕ) → g < 32 → i < 8 → taken_at parts g i ≡ part_in g i set
+  pub small : (g i : ℕ) → g < 32 → i < 8 → taken_at parts g i ≤ length set * 2 ^ 96
+
+-- what a set takes of each resource, and what of it is of one group
+pub record AreSumsOf (g : ℕ) (taken : Taken) (set : List Entry) : Type 0 where
+  pub all : (i : ℕ) → i < 8 → slice_index taken.all i ≡ total_in i set
+  pub own : (i : ℕ) → i < 8 → slice_index taken.own i ≡ part_in g i set
+  pub all_small : (i : ℕ) → i < 8 → slice_index taken.all i ≤ length set * 2 ^ 96
+  pub own_small : (i : ℕ) → i < 8 → slice_index taken.own i ≤ length set * 2 ^ 96

@@ -2,7 +2,7 @@
 
 ghost use Rattle.std.specs.Prelude.{◌≡◌, ℕ, ◌+◌, ◌*◌, ◌^◌, ◌<◌, ◌≤◌, slice_index, length, cond, not, nat_eq, nat_lt, ◌&&◌};
 ghost use Rattle.preempt.specs.Given.{recounted};
-ghost use Rattle.preempt.specs.GrantNumbers.{total_in, part_in, lower_in, spared_in};
+ghost use Rattle.preempt.specs.GrantNumbers.{lower_in, spared_in};
 
 use schedule_unit::{AppNo, UnitNo};
 
@@ -147,32 +147,6 @@ pub(crate) fn with_spared(lower: &[u128; 8], spared: &[Entry], need: &Need) -> [
     let mut sums = *lower;
     for e in spared {
         sums = raised(&sums, &e.size, spared_count(need, e));
-    }
-    sums
-}
-
-/// What entries take.
-pub(crate) fn total_of(set: &[Entry]) -> [u128; 8]
-    requires { length set.now ≤ 1000000 }
-    ensures is { (i : ℕ) → i < 8 → slice_index result i ≡ total_in i set.now }
-    ensures small { (i : ℕ) → i < 8 → slice_index result i ≤ length set.now * 2 ^ 96 }
-{
-    let mut sums = [0; 8];
-    for e in set {
-        sums = raised(&sums, &e.size, e.count);
-    }
-    sums
-}
-
-/// What the entries of one group take.
-pub(crate) fn part_of(set: &[Entry], group: usize) -> [u128; 8]
-    requires { length set.now ≤ 1000000 }
-    ensures is { (i : ℕ) → i < 8 → slice_index result i ≡ part_in group i set.now }
-    ensures small { (i : ℕ) → i < 8 → slice_index result i ≤ length set.now * 2 ^ 96 }
-{
-    let mut sums = [0; 8];
-    for e in set {
-        sums = raised(&sums, &e.size, count_if(e.group == group, e.count));
     }
     sums
 }

@@ -7,6 +7,7 @@ mod entry;
 pub mod law;
 mod need;
 mod number;
+mod parts;
 mod plan;
 mod room;
 mod search;

@@ -17,7 +17,7 @@ use crate::entry::{Entry, GroupUse, Need};
 use crate::number::{is_narrow, reach};
 use crate::plan::Victim;
 use crate::shelf::{Shelf, may_take_some};
-use crate::victims::victims_on;
+use crate::victims::{Scratch, victims_on};
 use crate::walk::entry_of;
 use fuxi_terms::OutOfMemory;
 use grant_table::{Asking, GrantTable};
@@ -59,7 +59,7 @@ pub(crate) fn waiting_of<P: Asking>(
     ensures pairs { IfOk result (λ waiting. map pair_of waiting.items ≡ P.line placer.now) }
     ensures entries { IfOk result (λ waiting. AllByRecursion (IsEntry table.now) waiting.items) }
 {
-    let mut waiting = Vec::new(alloc);
+    let mut waiting = Vec::with_capacity(alloc, placer.waiting_len())?;
     for place in 0..placer.waiting_len() {
         let (app, unit) = placer.waiting_at(place);
         waiting.push(unit_of(table, app, unit))?;
@@ -122,7 +122,7 @@ pub(crate) fn victims_for(
     e: &Entry,
     shelf: &Shelf,
     groups: &[GroupUse],
-    set: &mut Vec<Entry>,
+    scratch: &mut Scratch,
 ) -> Result<Option<Vec<Victim>>, OutOfMemory>
     requires resources { need.now.resources ≤ 8 }
     requires own { need.now.group < 32 }
@@ -137,5 +137,5 @@ pub(crate) fn victims_for(
         return Ok(None);
     }
     let need = on_shelf(need, e, shelf);
-    victims_on(alloc, &shelf.entries, &need, groups, set)
+    victims_on(alloc, &shelf.entries, &need, groups, scratch)
 }

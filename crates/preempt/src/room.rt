@@ -10,7 +10,7 @@ ghost use Rattle.preempt.specs.MachineRooms.{AreRooms, IsFor, IsPlaceFor, IsRoom
 ghost use Rattle.preempt.specs.Shelves.{AreShelves, IsShelf};
 
 use crate::entry::{GroupUse, Need, Sums, lower_of, with_spared};
-use crate::shelf::Shelf;
+use crate::shelf::{Shelf, may_take_some};
 use fuxi_terms::OutOfMemory;
 use grant_table::GrantTable;
 use std::alloc::Global;
@@ -51,31 +51,39 @@ fn greater_of(a: &[u128; 8], b: &[u128; 8]) -> [u128; 8]
     q
 }
 
-// Place by place the smaller.
-fn smaller_of(a: &[u128; 8], b: &[u128; 8]) -> [u128; 8]
-    ensures { (i : ℕ) → i < 8 → slice_index result i ≡ min (slice_index a.now i) (slice_index b.now i) }
+// What is left of what there is and of this sum, where so much is used.
+fn left_of(has: u64, sum: u128, used: u64) -> u128
+    requires { sum < 2 ^ 127 }
+    ensures { result ≡ (has + sum) - used }
 {
-    let mut q = [0; 8];
-    for i in 0..8 {
-        q[i] = a[i].min(b[i]);
-    }
-    q
+    (has as u128 + sum).saturating_sub(used as u128)
 }
 
-// What is left of what there is and of these sums, where so much is used.
-fn left_of(has: &[u64; 8], sums: &[u128; 8], used: &[u64; 8]) -> [u128; 8]
-    requires { (i : ℕ) → i < 8 → slice_index sums.now i < 2 ^ 127 }
-    ensures { (i : ℕ) → i < 8 → slice_index result i ≡ (slice_index has.now i + slice_index sums.now i) - slice_index used.now i }
+// In each of so many resources the smaller of what is left on a machine, where all this is taken, and of what is left
+// to a group, where so much of it is its own.
+fn left_on(
+    resources: usize,
+    shelf: &Shelf,
+    all: &[u128; 8],
+    group: &GroupUse,
+    own: &[u128; 8],
+) -> [u128; 8]
+    requires resources { resources ≤ 8 }
+    requires all_small { (i : ℕ) → i < 8 → slice_index all.now i < 2 ^ 127 }
+    requires own_small { (i : ℕ) → i < 8 → slice_index own.now i < 2 ^ 127 }
+    ensures { (i : ℕ) → i < resources → slice_index result i ≡ min ((slice_index shelf.now.has i + slice_index all.now i) - slice_index shelf.now.used i) ((slice_index group.now.limit i + slice_index own.now i) - slice_index group.now.used i) }
 {
     let mut q = [0; 8];
-    for i in 0..8 {
-        let whole = has[i] as u128 + sums[i];
-        q[i] = whole.saturating_sub(used[i] as u128);
+    for i in 0..resources {
+        let fits = left_of(shelf.has[i], all[i], shelf.used[i]);
+        let allowed = left_of(group.limit[i], own[i], group.used[i]);
+        q[i] = fits.min(allowed);
     }
     q
 }
 
 // What there is room for on a machine, once all that may be taken there is gone: it fits, and its group may use it.
+// Where nothing may be taken there are no victims, so no room is kept.
 fn room_on(shelf: &Shelf, need: &Need, groups: &[GroupUse]) -> Sums
     requires resources { need.now.resources ≤ 8 }
     requires own { need.now.group < 32 }
@@ -84,13 +92,14 @@ fn room_on(shelf: &Shelf, need: &Need, groups: &[GroupUse]) -> Sums
     requires long { length groups.now ≡ 32 }
     ensures { (t : TableRecord) (m : ℕ) → AreGroups t groups.now → IsShelf t groups.now m shelf.now → need.now.resources ≡ t.cluster.resources → IsRoom t need.now.group need.now.priority need.now.guaranteed m result.q }
 {
+    if !may_take_some(need, &shelf.lowest, shelf.loose) {
+        return Sums { q: [0; 8] };
+    }
     let lower = lower_of(&shelf.entries, need);
     let all = with_spared(&lower, &shelf.spared, need);
     let group = &groups[need.group];
-    let fits = left_of(&shelf.has, &all, &shelf.used);
-    let allowed = left_of(&group.limit, &lower, &group.used);
     Sums {
-        q: smaller_of(&fits, &allowed),
+        q: left_on(need.resources, shelf, &all, group, &lower),
     }
 }
 
@@ -110,7 +119,7 @@ fn rooms_of(
     ensures kind { IfOk result (IsFor need.now) }
 {
     let _cluster = table.cluster();
-    let mut each = Vec::new(alloc);
+    let mut each = Vec::with_capacity(alloc, shelves.len())?;
     let mut widest = [0; 8];
     for shelf in shelves {
         let room = room_on(shelf, need, groups);

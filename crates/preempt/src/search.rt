@@ -17,9 +17,11 @@ ghost use Rattle.preempt.specs.Shelves.{AreShelves, IsWanted};
 use crate::chance::may_any_take;
 use crate::entry::{Entry, GroupUse, Need, Sums};
 use crate::need::{need_of, victims_for, waiting_of};
+use crate::parts::Parts;
 use crate::plan::{Plan, Victims};
 use crate::room::{Rooms, is_within, rooms_at};
 use crate::shelf::{Shelf, groups_of, shelves_of};
+use crate::victims::Scratch;
 use crate::walk::holders_by_priority;
 use fuxi_terms::OutOfMemory;
 use grant_table::{Asking, GrantTable, Pick, Steps};
@@ -49,7 +51,7 @@ fn first_machine<P: Asking>(
     rooms: &[Sums],
     e: &Entry,
     need: &Need,
-    set: &mut Vec<Entry>,
+    scratch: &mut Scratch,
 ) -> Result<Option<Plan>, OutOfMemory>
     requires entry { IsEntry table.now e.now }
     requires groups { AreGroups table.now groups.now }
@@ -68,7 +70,7 @@ fn first_machine<P: Asking>(
             continue;
         }
         let shelf = &shelves[number as usize];
-        match victims_for(alloc, need, e, shelf, groups, set)? {
+        match victims_for(alloc, need, e, shelf, groups, scratch)? {
             Some(victims) => {
                 let pick = Pick {
                     app: e.app,
@@ -93,7 +95,7 @@ fn unit_plan<P: Asking>(
     shelves: &[Shelf],
     e: &Entry,
     kinds: &mut Vec<Rooms>,
-    set: &mut Vec<Entry>,
+    scratch: &mut Scratch,
 ) -> Result<Option<Plan>, OutOfMemory>
     requires entry { IsEntry table.now e.now }
     requires groups { AreGroups table.now groups.now }
@@ -121,7 +123,7 @@ fn unit_plan<P: Asking>(
         &rooms.each,
         e,
         &need,
-        set,
+        scratch,
     )
 }
 
@@ -134,7 +136,7 @@ fn first_unit<P: Asking>(
     shelves: &[Shelf],
     waiting: &[Entry],
     priority: u8,
-    set: &mut Vec<Entry>,
+    scratch: &mut Scratch,
 ) -> Result<Option<Plan>, OutOfMemory>
     requires entries { AllByRecursion (IsEntry table.now) waiting.now }
     requires groups { AreGroups table.now groups.now }
@@ -146,7 +148,9 @@ fn first_unit<P: Asking>(
         if e.priority != priority {
             continue;
         }
-        match unit_plan(alloc, table, placer, groups, shelves, e, &mut kinds, set)? {
+        match unit_plan(
+            alloc, table, placer, groups, shelves, e, &mut kinds, scratch,
+        )? {
             Some(plan) => return Ok(Some(plan)),
             None => {}
         }
@@ -184,12 +188,22 @@ pub fn find<P: Asking, L: Ledger>(
     if !may_any_take(table, &groups, &holders, &waiting) {
         return Ok(None);
     }
-    let shelves = shelves_of(alloc, table, &groups, &holders, steps)?;
-    let mut set = Vec::new(alloc);
+    let mut scratch = Scratch {
+        set: Vec::new(alloc),
+        parts: Parts::new(),
+    };
+    let shelves = shelves_of(alloc, table, &groups, &holders, &mut scratch.parts, steps)?;
     for late in 0..10_u8 {
         let priority = 9 - late;
         match first_unit(
-            alloc, table, placer, &groups, &shelves, &waiting, priority, &mut set,
+            alloc,
+            table,
+            placer,
+            &groups,
+            &shelves,
+            &waiting,
+            priority,
+            &mut scratch,
         )? {
             Some(plan) => return Ok(Some(plan)),
             None => {}

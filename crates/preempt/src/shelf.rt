@@ -7,8 +7,9 @@ ghost use Rattle.preempt.specs.Given.{AreGroups, AreSpared, IsEntry, IsGroup};
 ghost use Rattle.grant_table.specs.GrantTables.{TableRecord};
 ghost use Rattle.preempt.specs.Shelves.{AreHolders, IsShelf, AreShelves, IsLow, IsLoose, is_loose, is_other_loose, spares, may_take_some};
 
-use crate::entry::{Entry, GroupUse, Need, Sums, raised, recounted};
+use crate::entry::{Entry, GroupUse, Need, raised, recounted};
 use crate::number::spared_number;
+use crate::parts::Parts;
 use crate::walk::entries_on;
 use cluster_desc::Cluster;
 use fuxi_terms::OutOfMemory;
@@ -117,29 +118,38 @@ pub(crate) fn loose_of(entries: &[Entry], resources: usize, groups: &[GroupUse])
     loose
 }
 
-// Of each entry as many grants as its group spares beside those before it, whoever they are for.
+// Of each entry as many grants as its group spares beside those before it, whoever they are for. One of which it
+// spares none is left out.
 fn spared_of(
     alloc: Global,
     entries: &[Entry],
+    loose: Loose,
     resources: usize,
     groups: &[GroupUse],
+    parts: &mut Parts,
 ) -> Result<Vec<Entry>, OutOfMemory>
     requires few { length entries.now ≤ 1000000 }
     requires small { All (λ e. e.group < 32) entries.now }
     requires resources { resources ≤ 8 }
     requires long { length groups.now ≡ 32 }
-    ensures long { IfOk result (λ spared. length spared.items ≡ length entries.now) }
+    requires loose { AllByRecursion (IsLoose resources groups.now loose) entries.now }
+    ensures few { IfOk result (λ spared. length spared.items ≤ length entries.now) }
     ensures spared { IfOk result (λ spared. (t : TableRecord) (m : ℕ) → AllByRecursion (IsEntry t) entries.now → AreGroups t groups.now → resources ≡ t.cluster.resources → AreSpared t m entries.now spared.items) }
 {
+    match loose {
+        Loose::Nobody => return Ok(Vec::new(alloc)),
+        _ => {}
+    }
     let mut spared = Vec::new(alloc);
-    let mut parts = [Sums { q: [0; 8] }; 32];
+    parts.restart();
     for e in entries {
-        let part = parts[e.group].q;
+        let part = parts.of(e.group);
         let count = spared_number(resources, &groups[e.group], &part, &e.size, e.count);
+        if count == 0 {
+            continue;
+        }
         spared.push(recounted(e, count))?;
-        parts[e.group] = Sums {
-            q: raised(&part, &e.size, count),
-        };
+        parts.put(e.group, raised(&part, &e.size, count));
     }
     Ok(spared)
 }
@@ -171,7 +181,7 @@ fn group_use(table: &GrantTable, number: GroupNo) -> GroupUse
 pub(crate) fn groups_of(alloc: Global, table: &GrantTable) -> Result<Vec<GroupUse>, OutOfMemory>
     ensures { IfOk result (λ groups. AreGroups table.now groups.items) }
 {
-    let mut groups = Vec::new(alloc);
+    let mut groups = Vec::with_capacity(alloc, 32)?;
     for number in 0..32_u32 {
         groups.push(group_use(table, GroupNo(number)))?;
     }
@@ -196,6 +206,7 @@ fn shelf_of<L: Ledger>(
     groups: &[GroupUse],
     holders: &[Entry],
     machine: MachineNo,
+    parts: &mut Parts,
     steps: &mut Steps<L>,
 ) -> Result<Shelf, OutOfMemory>
     requires machine { machine.0 < length table.now.cluster.machines }
@@ -209,9 +220,9 @@ fn shelf_of<L: Ledger>(
     let resources = cluster.resources() as usize;
     let has = cluster.machine(machine).has.q;
     let entries = entries_on(alloc, table, holders, machine)?;
-    let spared = spared_of(alloc, &entries, resources, groups)?;
     let lowest = lowest_of(&entries);
     let loose = loose_of(&entries, resources, groups);
+    let spared = spared_of(alloc, &entries, loose, resources, groups, parts)?;
     Ok(Shelf {
         entries,
         spared,
@@ -228,6 +239,7 @@ pub(crate) fn shelves_of<L: Ledger>(
     table: &GrantTable,
     groups: &[GroupUse],
     holders: &[Entry],
+    parts: &mut Parts,
     steps: &mut Steps<L>,
 ) -> Result<Vec<Shelf>, OutOfMemory>
     requires groups { AreGroups table.now groups.now }
@@ -235,9 +247,10 @@ pub(crate) fn shelves_of<L: Ledger>(
     ensures shelves { IfOk result (λ shelves. AreShelves table.now groups.now shelves.items) }
     ensures steps { steps.new ≤ steps.old + length table.now.cluster.machines }
 {
-    let mut shelves = Vec::new(alloc);
+    let mut shelves = Vec::with_capacity(alloc, table.cluster().machines() as usize)?;
     for number in 0..table.cluster().machines() {
-        shelves.push(shelf_of(alloc, table, groups, holders, MachineNo(number), steps)?)?;
+        let machine = MachineNo(number);
+        shelves.push(shelf_of(alloc, table, groups, holders, machine, parts, steps)?)?;
     }
     Ok(shelves)
 }

@@ -8,56 +8,80 @@ ghost use Rattle.grant_table.specs.GrantTables.{TableRecord, IsSound};
 ghost use Rattle.preempt.specs.Given.{AreGiven, IsTaken, IsKept, IsEntry, IsNeed, board_of, victim_of};
 ghost use Rattle.preempt.specs.Plans.{AreTakable, losers_of};
 ghost use Rattle.preempt.specs.GrantNumbers.{has_grants};
+ghost use Rattle.preempt.specs.GroupSums.{AreSumsOf};
 
-use crate::entry::{
-    Entry, GroupUse, Need, Sums, count_if, lowered, part_of, raised, recounted, total_of,
-};
+use crate::entry::{Entry, GroupUse, Need, count_if, lowered, raised, recounted};
 use crate::number::{are_enough, may_number, needed_number};
+use crate::parts::Parts;
 use crate::plan::Victim;
 use fuxi_terms::OutOfMemory;
 use std::alloc::Global;
 
-// Of each entry as many grants as the walk takes, written into a list that is cleared before.
+/// What is written over for one machine after another.
+#[derive(Drop)]
+pub(crate) struct Scratch {
+    /// What is taken.
+    pub(crate) set: Vec<Entry>,
+    pub(crate) parts: Parts,
+}
+
+/// What a set takes of each resource, and what of it is of the group that is served.
+#[derive(Clone, Copy)]
+struct Taken {
+    all: [u128; 8],
+    own: [u128; 8],
+}
+
+// Of each entry as many grants as the walk takes, written into a list that is cleared before, and what they take.
 fn take_all(
-    set: &mut Vec<Entry>,
+    scratch: &mut Scratch,
     entries: &[Entry],
     need: &Need,
     groups: &[GroupUse],
-) -> Result<(), OutOfMemory>
+) -> Result<Taken, OutOfMemory>
     requires resources { need.now.resources ≤ 8 }
     requires own { need.now.group < 32 }
     requires few { length entries.now ≤ 1000000 }
     requires groups { All (λ e. e.group < 32) entries.now }
     requires long { length groups.now ≡ 32 }
-    ensures long { OnOk result (length set.new.items ≡ length entries.now) }
-    ensures is { OnOk result ((t : TableRecord) (s : Spot) → AreGiven t s entries.now need.now groups.now → IsTaken t s entries.now set.new.items) }
+    ensures long { OnOk result (length scratch.new.set.items ≡ length entries.now) }
+    ensures is { OnOk result ((t : TableRecord) (s : Spot) → AreGiven t s entries.now need.now groups.now → IsTaken t s entries.now scratch.new.set.items) }
+    ensures sums { IfOk result (λ taken. AreSumsOf need.now.group taken scratch.new.set.items) }
 {
+    let Scratch { set, parts } = scratch;
     set.clear();
+    parts.restart();
     let mut all = [0; 8];
-    let mut parts = [Sums { q: [0; 8] }; 32];
     for e in entries {
-        let own = parts[need.group].q;
-        let part = parts[e.group].q;
+        let own = parts.of(need.group);
+        let part = parts.of(e.group);
         let may = may_number(need, &groups[e.group], &part, e);
         let count = needed_number(need, &all, &own, e, may);
         set.push(recounted(e, count))?;
         all = raised(&all, &e.size, count);
-        parts[e.group] = Sums {
-            q: raised(&part, &e.size, count),
-        };
+        parts.put(e.group, raised(&part, &e.size, count));
     }
-    Ok(())
+    Ok(Taken {
+        all,
+        own: parts.of(need.group),
+    })
 }
 
 // Of each entry that was taken as many grants as are needed.
-fn keep_needed(alloc: Global, set: &[Entry], need: &Need) -> Result<Vec<Entry>, OutOfMemory>
+fn keep_needed(
+    alloc: Global,
+    set: &[Entry],
+    taken: &Taken,
+    need: &Need,
+) -> Result<Vec<Entry>, OutOfMemory>
     requires resources { need.now.resources ≤ 8 }
     requires few { length set.now ≤ 1000000 }
+    requires sums { AreSumsOf need.now.group taken.now set.now }
     ensures { IfOk result (λ kept. (t : TableRecord) (s : Spot) → IsNeed t s need.now → AllByRecursion (IsEntry t) set.now → IsKept t s set.now kept.items) }
 {
     let mut kept = Vec::new(alloc);
-    let mut all = total_of(set);
-    let mut own = part_of(set, need.group);
+    let mut all = taken.all;
+    let mut own = taken.own;
     for e in set {
         let rest = lowered(&all, &e.size, e.count);
         let own_rest = lowered(&own, &e.size, count_if(e.group == need.group, e.count));
@@ -101,7 +125,7 @@ pub(crate) fn victims_on(
     entries: &[Entry],
     need: &Need,
     groups: &[GroupUse],
-    set: &mut Vec<Entry>,
+    scratch: &mut Scratch,
 ) -> Result<Option<Vec<Victim>>, OutOfMemory>
     requires resources { need.now.resources ≤ 8 }
     requires own { need.now.group < 32 }
@@ -112,15 +136,14 @@ pub(crate) fn victims_on(
         MatchOption found (victims_in (board_of t) t.entries s ≡ None) (λ vs. victims_in (board_of t) t.entries s ≡ Some (losers_of s.machine vs.items))) }
     ensures takable { IfOk result (λ found. (t : TableRecord) (s : Spot) → AreGiven t s entries.now need.now groups.now → IsSound t → IfSome found (λ vs. AreTakable t s.machine vs.items)) }
 {
-    take_all(set, entries, need, groups)?;
-    let all = total_of(set);
-    let own = part_of(set, need.group);
-    if !are_enough(need, &all, &own) {
+    let taken = take_all(scratch, entries, need, groups)?;
+    if !are_enough(need, &taken.all, &taken.own) {
         return Ok(None);
     }
+    let set = &scratch.set;
     if !has_any(set) {
         return Ok(None);
     }
-    let kept = keep_needed(alloc, set, need)?;
+    let kept = keep_needed(alloc, set, &taken, need)?;
     Ok(Some(victims_of(alloc, &kept)?))
 }

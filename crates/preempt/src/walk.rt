@@ -8,7 +8,7 @@ ghost use Rattle.fuxi_terms.specs.Lists.{below};
 ghost use Rattle.grant_table.specs.GrantTables.{TableRecord, IsSound, as_known};
 ghost use Rattle.preempt.specs.Given.{IsEntry, pair_of, written};
 ghost use Rattle.preempt.specs.Shelves.{AreHolders};
-ghost use Rattle.preempt.specs.Walks.{holds_some, units_in, all_units, backward, of_priority, pairs_by_priority, entry_on};
+ghost use Rattle.preempt.specs.Walks.{holds_some, units_in, all_units, backward, of_priority, entries_by_priority, entry_on};
 
 use crate::entry::{Entry, recounted};
 use fuxi_terms::OutOfMemory;
@@ -70,17 +70,13 @@ fn push_priority(sorted: &mut Vec<Entry>, units: &[Entry], priority: u8) -> Resu
     Ok(())
 }
 
-// All admitted units in the order of the walk, with no grants.
-fn units_by_priority(alloc: Global, table: &GrantTable) -> Result<Vec<Entry>, OutOfMemory>
-    ensures pairs { IfOk result (λ units. map pair_of units.items ≡ pairs_by_priority (priority_of (as_known table.now.jobs)) (all_units table.now.jobs) 10) }
-    ensures entries { IfOk result (λ units. AllByRecursion (IsEntry table.now) units.items) }
-    ensures few { IfOk result (λ units. length units.items ≤ 1000000) }
+// In the order of the walk, where they stand in that of job and unit.
+fn by_priority(alloc: Global, units: &[Entry]) -> Result<Vec<Entry>, OutOfMemory>
+    ensures { IfOk result (λ sorted. sorted.items ≡ entries_by_priority units.now 10) }
 {
-    let _cluster = table.cluster();
-    let units = all_units(alloc, table)?;
-    let mut sorted = Vec::new(alloc);
+    let mut sorted = Vec::with_capacity(alloc, units.len())?;
     for priority in 0..10_u8 {
-        push_priority(&mut sorted, &units, priority)?;
+        push_priority(&mut sorted, units, priority)?;
     }
     Ok(sorted)
 }
@@ -107,8 +103,9 @@ pub(crate) fn holders_by_priority(
     ensures { IfOk result (λ holders. AreHolders table.now holders.items) }
 {
     let _cluster = table.cluster();
-    let units = units_by_priority(alloc, table)?;
-    holders_of(alloc, table, &units)
+    let units = all_units(alloc, table)?;
+    let holders = holders_of(alloc, table, &units)?;
+    by_priority(alloc, &holders)
 }
 
 /// Of units those that have grants on a machine, with their number there.

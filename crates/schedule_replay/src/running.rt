@@ -106,7 +106,10 @@ impl Running {
         law::cores_may_step();
         law::written_frame_lengths();
         self.events += 1;
-        let mut out = Vec::new(alloc);
+        // (most events print less, so the buffer does not grow)
+        let Ok(mut out) = Vec::with_capacity(alloc, 256) else {
+            return Err(WorldStop::OutOfMemory);
+        };
         match act(self, alloc, event, &mut out) {
             Ok(()) => {}
             Err(stop) => return Err(stop),

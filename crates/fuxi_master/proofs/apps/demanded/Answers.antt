@@ -4,8 +4,10 @@ use Rattle.fuxi_terms.specs.Jobs.{unit_count}
 use Rattle.grant_table.specs.GrantTables.{as_known}
 use Rattle.fuxi_terms.specs.Keys.{key_cmp}
 use Rattle.fuxi_terms.specs.TallyKeys.{greatest_demand}
-use Rattle.fuxi_terms.specs.Tallies.{TallyRecord}
+use Rattle.fuxi_terms.specs.Tallies.{TallyRecord, ChangeRecord}
 use Rattle.fuxi_master.specs.Heard.{IsCredited, newly_credited}
+use Rattle.fuxi_master.specs.ToldAsHeard.{AsksButAt}
+use Rattle.fuxi_master.proofs.AsksOtherwise.{some_more}
 use Rattle.fuxi_master.proofs.Demanded.{dead_demanded, alive_demanded}
 use Rattle.fuxi_master.proofs.apps.demanded.Goals as goal
 
@@ -22,16 +24,26 @@ returns-then-fresh c =
     let x = c.args.allotment.now in
     let a = c.args.app.0 in
     let d = c.args.side.now in
-    let y = c.credited-then-fresh.new.allotment in
+    let y = c.credited.new.allotment in
     let l = c.in_ok-numbers in
     let on : c.args.live ≡ true = search rules in
     let fresh : c.args.fresh ≡ true = search rules in
     let counts = subst (λ (t : TallyRecord). AreCounts key_cmp greatest_demand t.entries) c.got.ensures.received c.entries-entries.ensures.counts in
     let got = c.got-then-fresh.ensures.received in
-    let given : c.empty-then-fresh.result.entries ≡ cond c.args.fresh [] d.outgoing.present.entries = ap (λ (t : TallyRecord). t.entries) c.empty-then-fresh.ensures ∙ sym (ap (λ f. cond f [] d.outgoing.present.entries) fresh) in
-    alive_demanded a c.args.fresh c.args.live d c.empty-then-fresh.result.entries x y l.numbers.items on given
-    (subst (λ (t : TallyRecord). IsCredited a t.entries c.empty-then-fresh.result.entries x y) got l.ensures.credits) counts
-    (subst (λ (t : TallyRecord). l.numbers.items ≡ newly_credited x.table.cluster (unit_count (as_known x.table.jobs) a) c.empty-then-fresh.result.entries t.entries) got l.ensures.numbers)
+    let given : c.empty-given.result.entries ≡ cond c.args.fresh [] d.outgoing.present.entries = ap (λ (t : TallyRecord). t.entries) c.empty-given.ensures ∙ sym (ap (λ f. cond f [] d.outgoing.present.entries) fresh) in
+    alive_demanded a c.args.fresh c.args.live d c.empty-given.result.entries x y l.numbers.items on given
+    (subst (λ (t : TallyRecord). IsCredited a t.entries c.empty-given.result.entries x y) got l.ensures.credits) counts
+    (subst (λ (t : TallyRecord). l.numbers.items ≡ newly_credited x.table.cluster (unit_count (as_known x.table.jobs) a) c.empty-given.result.entries t.entries) got l.ensures.numbers)
+
+pub credited-requires-2-clause-told : goal.credited-requires-2-clause-told
+credited-requires-2-clause-told c =
+    let x = c.args.allotment.now in
+    let a = c.args.app.0 in
+    let d = c.args.side.now in
+    let on : c.args.live ≡ true = search rules in
+    let old : c.args.fresh ≡ false = search rules in
+    some_more (λ (change : ChangeRecord). c.args.fresh ≡ false → c.args.live ≡ true → AsksButAt change.entries a d.incoming.received.entries x) (λ (change : ChangeRecord). AsksButAt change.entries a c.got-2.result.now.entries x) c.args.change.now
+    (λ change asks. subst (λ (t : TallyRecord). AsksButAt change.entries a t.entries x) (sym c.got-2.ensures.received) (asks old on)) c.requires.told
 
 pub returns : goal.returns
 returns c =

@@ -1,10 +1,13 @@
-use Rattle.std.proofs.Common.{◌≡◌, Some, Ok, Err, refl, sym, ◌∙◌, ap}
+use Rattle.std.proofs.Common.{◌≡◌, Bool, true, false, Result, Some, Ok, Err, refl, sym, ◌∙◌, ap, subst}
+use Rattle.std.specs.Prelude.{IsOk, is_some}
 use Rattle.std.proofs.lemmas.Result.{IfOk-weaker}
-use Rattle.written_roles.specs.HardState.{hard_step}
+use Rattle.written_roles.specs.HardState.{HardState, hard_step}
+use Rattle.written_roles.specs.Refusals.{Refusal}
 use Rattle.hard_state.specs.declared.fault.HardFault.TheVariants.{DiskFault}
+use Rattle.party_orders.specs.declared.masters.Halt.TheVariants.{Memory}
 use Rattle.party_orders.specs.OrderedParties.{event_of, hard_after, writing_as}
 use Rattle.party_orders.specs.CarriedOrders.{CarriesOut, IsTold, carried_out}
-use Rattle.party_orders.proofs.CarriedOrdersLemmas.{alone_obeyed, fits, is_alone, is_writing, leaves_untouched, leaves_written, on_ok, refused_obeyed, written_obeyed}
+use Rattle.party_orders.proofs.CarriedOrdersLemmas.{alone_obeyed, carried_ok, fits, is_alone, is_writing, leaves_untouched, leaves_written, on_ok, refused_obeyed, step_wanted, written_obeyed}
 use Rattle.party_orders.proofs.masters.carry_out.Goals as goal
 
 pub tell-requires-clause-fitting : goal.tell-requires-clause-fitting
@@ -75,3 +78,26 @@ returns-clause-told g c =
     let x = is_writing event v (sym c.writing_of.ensures.writing ∙ ap writing_as c.in-Some.is) in
     leaves_written event v c.args.hard.now c.write.new.hard c.args.master.core c.epoch.result (Ok c.in-Ok.field-0) c.tell-2.result (g.D.Disk.told c.args.disk.now) (g.D.Disk.told c.write.new.disk)
     x c.epoch.ensures.stands (λ new rest. on_ok c.tell-2.result rest) c.in-Ok.ensures.told
+
+pub returns-in_default-clause-memory : goal.returns-in_default-clause-memory
+returns-in_default-clause-memory g c is writes r s = let none = sym c.writing_of.ensures.writing ∙ ap writing_as c.in_default.is in absurd (not_written (ap is_some none) writes)
+  where
+    not_written : {b : Bool} → b ≡ false → b ≡ true → ⊥
+    not_written f t = cc
+
+pub returns-in-Err-written_refusal-clause-memory : goal.returns-in-Err-written_refusal-clause-memory
+returns-in-Err-written_refusal-clause-memory g c is writes r s =
+    let event = c.args.event in
+    let v = event_of c.in-Some.writing in
+    let h = c.args.hard.now.value in
+    let x = is_writing event v (sym c.writing_of.ensures.writing ∙ ap writing_as c.in-Some.is) in
+    let halt : c.written_refusal.result ≡ Err Memory = c.in-Err-written_refusal.is ∙ (let same : c.in-Err-written_refusal.halt ≡ Memory = cc in ap (λ h. Err h) same) in
+    carried_ok event v h c.args.master.core c.epoch.result x c.epoch.ensures.stands r s
+    (step_wanted (hard_step h c.epoch.result v) c.in-Err.fault c.in-Err.ensures.refused (c.written_refusal.ensures.memory halt))
+
+pub returns-clause-memory : goal.returns-clause-memory
+returns-clause-memory g c is writes r s =
+    let event = c.args.event in
+    let v = event_of c.in-Some.writing in
+    let x = is_writing event v (sym c.writing_of.ensures.writing ∙ ap writing_as c.in-Some.is) in
+    carried_ok event v c.args.hard.now.value c.args.master.core c.epoch.result x c.epoch.ensures.stands r s (subst (λ (y : Result HardState Refusal). IsOk y) (sym c.in-Ok.ensures.ok.0) refl)

@@ -22,3 +22,6 @@ returns-in-Some-clause-tests c =
     let fault = subst (λ l. IsFault (job_fault n l) c.in-Err.fault) c.as_slice.ensures c.in-Err.ensures.made in
     let is : job_refusal c.in-Err.fault ≡ Some c.in-Some.refusal = sym c.job_refusal.ensures ∙ c.in-Some.is in
     job_refused c.jobs_are_tested_alike.ensures c.args.cluster.now a g n asks c.in-Err.fault c.in-Some.refusal c.resources.ensures.number (group_there c.args.cluster.now g c.groups.result c.groups.ensures.number c.if-group-groups.false) is fault
+
+pub returns-in-None-clause-memory : goal.returns-in-None-clause-memory
+returns-in-None-clause-memory c = group_there c.args.cluster.now c.args.group.0 c.groups.result c.groups.ensures.number c.if-group-groups.false

@@ -1,7 +1,14 @@
-use Rattle.std.proofs.Common.{◌≡◌, ℕ, ◌≤◌, ◌∙◌, arith}
-use Rattle.place_pass.specs.Bounds.{mark_at, lowered_mark}
+use Rattle.std.proofs.Common.{◌≡◌, ℕ, ◌<◌, ◌≤◌, true, List, None, ◌∙◌, arith}
+use Rattle.std.specs.Prelude.{is_some}
+use Rattle.place_pass.specs.Bounds.{MarkRecord, mark_at, key_of, lowered_mark}
+use Rattle.place_pass.specs.PackedRanks.{no_rank, IsAbove}
+use Rattle.place_pass.proofs.PackedRanksLemmas.{none_above}
 use Rattle.place_pass.proofs.NotedMarksLemmas.{done_next, left_next, lowered_passed}
 use Rattle.place_pass.proofs.marks.lower_all.Goals as goal
+
+passed : (marks : List MarkRecord) (number from to : ℕ) → number ≡ no_rank → to ≤ 256 → ((m : ℕ) → from ≤ m → m < to → is_some (key_of (mark_at marks m) 0) ≡ true → IsAbove (mark_at marks m) 0 m number)
+    → (m : ℕ) → from ≤ m → m < to → key_of (mark_at marks m) 0 ≡ None
+passed marks number from to all few h m ge lt = none_above (mark_at marks m) 0 m number all (omega (arith, lt, few)) (h m ge lt)
 
 pub loop-at-preserved : goal.loop-at-preserved
 loop-at-preserved c =
@@ -15,7 +22,7 @@ loop-at-preserved c =
     record {
       inside = let lt = c.if-number-len.false in let long = c.lower.ensures.long in let number = c.len-in-loop-at.ensures.number in omega (arith, lt, long, number);
       long = c.lower.ensures.long ∙ i.long;
-      done = done_next (λ _. lowered_mark) first before c.lower.new.self n is left (lowered_passed first before c.loop-at.at n i.done i.left c.next-number.ensures.passed);
+      done = done_next (λ _. lowered_mark) first before c.lower.new.self n is left (lowered_passed first before c.loop-at.at n i.done i.left (passed c.loop-at.marks c.number_of_none.result c.loop-at.at n c.number_of_none.ensures (let inside = c.next-number.ensures.inside in let few = c.next-number.ensures.few in omega (arith, inside, few)) c.next-number.ensures.passed));
       left = left_next (λ _. lowered_mark) first before c.lower.new.self n is left;
     }
 
@@ -25,4 +32,5 @@ returns-then-number-len-clause-marks c m lt =
     let ge = c.if-number-len.true in
     let number = c.len-in-loop-at.ensures.number in
     let long = i.long in
-    lowered_passed c.args.marks.now c.loop-at.marks c.loop-at.at c.next-number.result i.done i.left c.next-number.ensures.passed m (omega (arith, lt, ge, number, long))
+    lowered_passed c.args.marks.now c.loop-at.marks c.loop-at.at c.next-number.result i.done i.left
+    (passed c.loop-at.marks c.number_of_none.result c.loop-at.at c.next-number.result c.number_of_none.ensures (let inside = c.next-number.ensures.inside in let few = c.next-number.ensures.few in omega (arith, inside, few)) c.next-number.ensures.passed) m (omega (arith, lt, ge, number, long))

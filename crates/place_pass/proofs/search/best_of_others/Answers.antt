@@ -6,7 +6,8 @@ use Rattle.place_pass.specs.Bounds.{MarkRecord, mark_at, rank_on}
 use Rattle.place_pass.specs.SearchCounts.{is_unsettled_by, count_below}
 use Rattle.place_pass.specs.Scenes.{board_in, IsLeastOn, IsSettledBy}
 use Rattle.place_pass.specs.Sights.{turn_in}
-use Rattle.place_pass.proofs.PassedMachines.{is_other, passed_count, passed_least, passed_settled}
+use Rattle.place_pass.proofs.PassedMachines.{is_other, passed_least, passed_settled}
+use Rattle.place_pass.proofs.SearchCountsLemmas.{count_more}
 use Rattle.place_pass.proofs.search.best_of_others.Goals as goal
 
 pub loop-at-init : goal.loop-at-init
@@ -15,18 +16,20 @@ loop-at-init g c =
     let marks = c.args.marks.now in
     let at = c.next_other-at.result in
     let passed = c.next_other-at.ensures.passed in
-    let none = passed_count s c.args.start.0 0 at marks c.args.before c.requires.ready c.requires.old passed marks (omega arith) (λ m _. refl) in
+    let inside = c.next_other-at.ensures.inside in
+    let all = c.next_other-at.ensures.few in
+    let few : at ≤ 256 = omega (arith, inside, all) in
     record {
       inside = c.next_other-at.ensures.inside;
       other = c.next_other-at.ensures.other;
-      least = passed_least s c.args.start.0 0 at marks c.args.before c.requires.ready c.requires.old passed c.requires.seen (λ m lt. absurd (omega (arith, lt)));
+      least = passed_least s c.args.start.0 0 at marks c.args.best.now c.requires.old few passed c.requires.ready c.requires.seen (λ m lt. absurd (omega (arith, lt)));
       seen = c.requires.seen;
       found = λ h. h;
       marked = refl;
       marks = c.requires.old;
       left = λ m _. refl;
       count = omega arith;
-      settled = λ e. passed_settled s c.args.start.0 0 at marks c.args.before c.requires.ready c.requires.old passed (c.requires.settled e) (λ m lt. absurd (omega (arith, lt)));
+      settled = λ e. passed_settled s c.args.start.0 0 at marks c.args.best.now c.requires.old few passed e (c.requires.settled e) (λ m lt. absurd (omega (arith, lt)));
       first = c.requires.settled;
     }
 
@@ -38,10 +41,13 @@ loop-at-preserved g c =
     let at = c.next_other-at-in-loop-at.result in
     let start = c.args.start.0 in
     let firsts = c.args.marks.now in
-    let marks = c.consider_at-best.new.marks in
-    let best = c.consider_at-best.result in
-    let looked = c.consider_at-best.ensures in
+    let marks = c.consider_at.new.marks in
+    let best = c.consider_at.new.best in
+    let looked = c.consider_at.ensures in
     let passed = c.next_other-at-in-loop-at.ensures.passed in
+    let inside = c.next_other-at-in-loop-at.ensures.inside in
+    let all = c.next_other-at-in-loop-at.ensures.few in
+    let few : at ≤ 256 = omega (arith, inside, all) in
     let test = c.loop-at-test.true in
     let number = c.len.ensures.number in
     let apart : nat_eq n start ≡ false = i.other (omega (arith, test, number)) in
@@ -53,7 +59,7 @@ loop-at-preserved g c =
     record {
       inside = c.next_other-at-in-loop-at.ensures.inside;
       other = c.next_other-at-in-loop-at.ensures.other;
-      least = passed_least s start (n + 1) at marks best c.requires.ready looked.marks passed seen (λ m lt. elim (cases_lt m n) as (λ _. IsLeastOn s best m) [
+      least = passed_least s start (n + 1) at marks best looked.marks few passed c.requires.ready seen (λ m lt. elim (cases_lt m n) as (λ _. IsLeastOn s best m) [
         | inl l ↦ record { least = λ q has p. looked.kept (rank_on (board_in s) s.table.now.entries (turn_in s.turn_of.now q) q m) ((i.least m l).least q has p) }
         | inr ge ↦ subst (IsLeastOn s best) (let same : n ≡ m = omega (arith, lt, ge) in same) looked.least
       ]);
@@ -65,10 +71,10 @@ loop-at-preserved g c =
       count =
           let k = i.count in
           let e : count_below (is_other s start firsts) (n + 1) ≡ count_below (is_other s start firsts) n + cond (is_other s start firsts n) 1 0 = ap (count_below (is_other s start firsts)) (add-one n) in
-          let none = passed_count s start (n + 1) at marks best c.requires.ready looked.marks passed firsts c.next_other-at-in-loop-at.ensures.least left in
+          let more = count_more (is_other s start firsts) (n + 1) at c.next_other-at-in-loop-at.ensures.least in
           let steps = looked.count in
-          omega (arith, k, e, none, steps, one);
-      settled = λ e. passed_settled s start (n + 1) at marks best c.requires.ready looked.marks passed (first e) (λ m lt. elim (cases_lt m n) as (λ _. IsSettledBy s m (mark_at marks m)) [
+          omega (arith, k, e, more, steps, one);
+      settled = λ e. passed_settled s start (n + 1) at marks best looked.marks few passed e (first e) (λ m lt. elim (cases_lt m n) as (λ _. IsSettledBy s m (mark_at marks m)) [
         | inl l ↦ subst (IsSettledBy s m) (sym (looked.others m (grind (arith, nat_tests, l)))) (i.settled (looked.empty e) m l)
         | inr ge ↦ subst (λ z. IsSettledBy s z (mark_at marks z)) (let same : n ≡ m = omega (arith, lt, ge) in same) (looked.settled e)
       ]);

@@ -11,7 +11,7 @@ invariant-loop-at g l = record {
   other : l.at < length l.marks → nat_eq l.at l.start.0 ≡ false;
   least : (m : ℕ) → m < l.at → IsLeastOn l.scene l.best m;
   seen : IsLeastOn l.scene l.best l.start.0;
-  found : IfSome l.fn.before (λ x. IsFoundIn l.scene x) → IfSome l.best (λ x. IsFoundIn l.scene x);
+  found : IfSome l.initial.best (λ x. IsFoundIn l.scene x) → IfSome l.best (λ x. IsFoundIn l.scene x);
   marked : length l.marks ≡ length l.initial.marks;
   marks : AreMarked l.scene l.marks;
   left : (m : ℕ) → l.at ≤ m → mark_at l.marks m ≡ mark_at l.initial.marks m;

@@ -21,7 +21,7 @@ returns-in-Some-clause-least g c =
     let s = c.args.scene.now in
     let m = c.args.machine.0 in
     let groups = c.look.new.mark.groups in
-    least_seen (board_in s) s.table.now.entries (turn_in s.turn_of.now) s.line.now.pairs m (found_rank c.better.result) (rank_of c.in-Some.sight.rank) groups refl c.better.ensures.itself
+    least_seen (board_in s) s.table.now.entries (turn_in s.turn_of.now) s.line.now.pairs m (found_rank c.better.new.best) (rank_of c.in-Some.sight.rank) groups refl c.better.ensures.itself
     (λ q has. subst (λ o. IsBounded (board_in s) s.table.now.entries o groups (turn_in s.turn_of.now q) q m) (ap sight_rank c.in-Some.is) (c.look.ensures.best.bounded q has))
 
 pub returns-in-None-clause-least : goal.returns-in-None-clause-least
@@ -29,7 +29,7 @@ returns-in-None-clause-least g c =
     let s = c.args.scene.now in
     let m = c.args.machine.0 in
     let groups = c.look.new.mark.groups in
-    least_none (board_in s) s.table.now.entries (turn_in s.turn_of.now) s.line.now.pairs m (found_rank c.args.before) groups
+    least_none (board_in s) s.table.now.entries (turn_in s.turn_of.now) s.line.now.pairs m (found_rank c.args.best.now) groups
     (λ q has. subst (λ o. IsBounded (board_in s) s.table.now.entries o groups (turn_in s.turn_of.now q) q m) (ap sight_rank c.in-None.is) (c.look.ensures.best.bounded q has))
 
 pub returns-in-Some-clause-count : goal.returns-in-Some-clause-count
@@ -41,10 +41,10 @@ returns-in-None-clause-count g c =
     one_look (is_unsettled_by c.args.scene.now.wishes.now.opened (mark_of c.args.mark.now) c.args.scene.now.turns c.args.machine.0) c.args.steps.now c.look.new.steps c.look.ensures.step c.requires.unsettled
 
 pub returns-in-Some-clause-settled : goal.returns-in-Some-clause-settled
-returns-in-Some-clause-settled g c e opened = absurd (not_none c.better.result c.better.ensures.some e)
+returns-in-Some-clause-settled g c e opened = absurd (not_none c.better.new.best c.better.ensures.some e)
 
 pub returns-in-Some-clause-empty : goal.returns-in-Some-clause-empty
-returns-in-Some-clause-empty g c e = absurd (not_none c.better.result c.better.ensures.some e)
+returns-in-Some-clause-empty g c e = absurd (not_none c.better.new.best c.better.ensures.some e)
 
 pub returns-in-None-clause-settled : goal.returns-in-None-clause-settled
 returns-in-None-clause-settled g c e opened =

@@ -1,4 +1,4 @@
-use Rattle.std.proofs.Common.{◌≡◌, ◌+◌, cond, nat_eq, arith}
+use Rattle.std.proofs.Common.{◌+◌, cond, nat_eq, arith}
 use Rattle.std.specs.Prelude.{slice_index}
 use Rattle.preempt.specs.GrantNumbers.{needed_in_one}
 use Rattle.preempt.proofs.Numbers.{reach_most, greatest_most}

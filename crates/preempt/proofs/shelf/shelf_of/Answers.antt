@@ -20,8 +20,8 @@ returns-clause-shelf g c =
       walk = c.in_ok-entries.ensures.entries ∙ c.requires.holders.lists m;
       each = c.in_ok-entries.ensures.each;
       few = let a = c.in_ok-entries.ensures.few in let b = c.requires.holders.few in omega (arith, a, b);
-      spared = subst (λ es. AreSpared t m es c.in_ok-spared.spared.items) c.deref.ensures.value (c.in_ok-spared.ensures.spared t m (subst (AllByRecursion (IsEntry t)) (sym c.deref.ensures.value) c.in_ok-entries.ensures.each) c.requires.groups count);
-      few_spared = let l = c.in_ok-spared.ensures.long ∙ ap length c.deref.ensures.value in let a = c.in_ok-entries.ensures.few in let b = c.requires.holders.few in omega (arith, l, a, b);
+      spared = subst (λ es. AreSpared t m es c.in_ok-spared.spared.items) c.deref-3.ensures.value (c.in_ok-spared.ensures.spared t m (subst (AllByRecursion (IsEntry t)) (sym c.deref-3.ensures.value) c.in_ok-entries.ensures.each) c.requires.groups count);
+      few_spared = let l = c.in_ok-spared.ensures.few in let d = ap length c.deref-3.ensures.value in let a = c.in_ok-entries.ensures.few in let b = c.requires.holders.few in omega (arith, l, d, a, b);
       has = λ i lt. has i;
       used = λ i lt.
           let u = c.used_of.ensures i (omega (arith, lt, eight)) in
@@ -29,6 +29,9 @@ returns-clause-shelf g c =
           let f = sym (at_place-get_or c.free-free.result.q i) ∙ c.free-free.ensures.free i in
           let w = c.free-free.ensures.fits i in
           omega (arith, u, h, f, w);
-      low = subst (AllByRecursion (IsLow c.lowest_of-lowest.result)) c.deref-2.ensures.value c.lowest_of-lowest.ensures;
-      loose_are = subst (λ n. AllByRecursion (IsLoose n c.args.groups.now c.loose_of-loose.result) c.in_ok-entries.entries.items) count (subst (AllByRecursion (IsLoose c.resources-resources.result c.args.groups.now c.loose_of-loose.result)) c.deref-3.ensures.value c.loose_of-loose.ensures);
+      low = subst (AllByRecursion (IsLow c.lowest_of-lowest.result)) c.deref.ensures.value c.lowest_of-lowest.ensures;
+      loose_are = subst (λ n. AllByRecursion (IsLoose n c.args.groups.now c.loose_of-loose.result) c.in_ok-entries.entries.items) count (subst (AllByRecursion (IsLoose c.resources-resources.result c.args.groups.now c.loose_of-loose.result)) c.deref-2.ensures.value c.loose_of-loose.ensures);
     }
+
+pub spared_of-requires-clause-loose : goal.spared_of-requires-clause-loose
+spared_of-requires-clause-loose g c = subst (AllByRecursion (IsLoose c.resources-resources.result c.args.groups.now c.loose_of-loose.result)) (c.deref-2.ensures.value ∙ sym c.deref-3.ensures.value) c.loose_of-loose.ensures

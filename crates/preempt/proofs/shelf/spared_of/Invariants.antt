@@ -1,4 +1,4 @@
-use Rattle.std.proofs.Common.{◌≡◌, ℕ, length}
+use Rattle.std.proofs.Common.{◌≡◌, ℕ, ◌≤◌, length}
 use Rattle.std.specs.List.{AllByRecursion}
 use Rattle.grant_table.specs.GrantTables.{TableRecord}
 use Rattle.preempt.specs.Given.{AreGroups, IsEntry}
@@ -8,7 +8,7 @@ use Rattle.preempt.proofs.shelf.spared_of.Given as goal
 
 abbrev pub invariant-loop-e : goal.invariant-loop-e
 invariant-loop-e l = record {
-  long : length l.spared.items ≡ l.e-index;
+  few : length l.spared.items ≤ l.e-index;
   parts : ArePartsOf l.parts l.spared.items;
   at : (t : TableRecord) (m : ℕ) → AllByRecursion (IsEntry t) l.entries → AreGroups t l.groups → l.resources ≡ t.cluster.resources → AtSpared t m l.entries l.e-index l.spared.items;
 }

@@ -2,8 +2,20 @@ use Rattle.std.proofs.Common.{◌≡◌, ℕ, ◌+◌, ◌*◌, ◌<◌, [], ◌
 use Rattle.preempt.specs.declared.entry.Entry.{Entry}
 use Rattle.preempt.specs.GrantNumbers.{total_in, part_in}
 use Rattle.preempt.specs.Given.{recounted}
-use Rattle.preempt.proofs.CountedAsWritten.{AtKeeping, keeping_goes_on, total_push, part_push, total_first, part_first}
+use Rattle.preempt.proofs.CountedAsWritten.{AtKeeping, keeping_starts, keeping_goes_on, total_push, part_push, total_first, part_first}
 use Rattle.preempt.proofs.victims.keep_needed.Goals as goal
+
+pub loop-e-init : goal.loop-e-init
+loop-e-init c =
+    let sums = c.requires.sums in
+    let few = c.requires.few in
+    record {
+      all = λ i h. let a = sums.all i h in let z = ap (total_in i) c.new-kept.ensures.items in omega (arith, a, z);
+      own = λ i h. let a = sums.own i h in let z = ap (part_in c.args.need.now.group i) c.new-kept.ensures.items in omega (arith, a, z);
+      all_small = λ i h. let a = sums.all_small i h in omega (arith, a, few);
+      own_small = λ i h. let a = sums.own_small i h in omega (arith, a, few);
+      at = λ t s need each. subst (AtKeeping t s c.args.set.now 0) (sym c.new-kept.ensures.items) (keeping_starts t s c.args.set.now);
+    }
 
 pub loop-e-preserved : goal.loop-e-preserved
 loop-e-preserved c =

@@ -1,38 +1,53 @@
-use Rattle.std.proofs.Common.{rules, ◌≡◌, false, sym, ◌∙◌, ap}
+use Rattle.std.proofs.Common.{rules, ◌≡◌, true, false, sym, ◌∙◌, ap, subst}
+use Rattle.std.specs.Prelude.{◌||◌, IfSome}
+use Rattle.fuxi_terms.specs.Tallies.{ChangeRecord}
 use Rattle.core_side.specs.Parcels.{id_of}
+use Rattle.fuxi_master.specs.Heard.{ChangesAsked}
 use Rattle.fuxi_master.specs.Seen.{core_of}
+use Rattle.fuxi_master.specs.ToldAsHeard.{IsHeardOnly}
 use Rattle.fuxi_master.proofs.AppHeard.{app_number}
 use Rattle.fuxi_master.proofs.StepsLemmas.{wider, has_role, app_quiet, app_quiet_core, app_changed, app_talks}
+use Rattle.fuxi_master.proofs.ToldAsHeardLemmas.{told_demanding}
 use Rattle.fuxi_master.proofs.state.Core.heard_app.Goals as goal
 
 pub returns-then-not-taken : goal.returns-then-not-taken
 returns-then-not-taken c =
     let x = core_of c.args.self.now in
     let y = core_of c.hear_app.new.self in
-    let e = c.in_ok-heard.ensures in
+    let e = c.in_ok-heard.ensures.heard in
     let a = c.args.packet.from.number in
     let old : c.in_ok-heard.heard.fresh ≡ false = search rules in
     let kept : c.is_taken-taken.result ≡ false = search rules in
     record {
-      core = app_quiet_core c.step_ends.ensures y e.near c.in_ok-heard.heard.fresh a e.boots old;
+      core = app_quiet_core c.step_ends.ensures y e.near c.in_ok-heard.heard.fresh c.is_taken-taken.result a e.boots (subst (λ t. IsHeardOnly a c.in_ok-heard.heard.fresh t e.near.role) (sym c.is_taken-taken.ensures) e.only) old kept;
       within = wider c.args.steps y (e.within c.args.steps c.requires.within);
-      hears = λ r h. app_quiet c.step_ends.ensures y e.near a c.args.packet c.in_ok-heard.heard r (e.hears r h) e.boots old (sym c.is_taken-taken.ensures ∙ kept) (ap (λ q. id_of q a) c.requires.from) (app_talks x r h a c.requires.known);
+      hears = λ r h. app_quiet c.step_ends.ensures y e.near a c.args.packet c.in_ok-heard.heard r (e.hears r h) e.boots e.only old (sym c.is_taken-taken.ensures ∙ kept) (ap (λ q. id_of q a) c.requires.from) (app_talks x r h a c.requires.known);
     }
+
+pub take_demand-requires-clause-asks : goal.take_demand-requires-clause-asks
+take_demand-requires-clause-asks c =
+    subst (λ t. IfSome c.in_ok-heard.change (λ (change : ChangeRecord). ChangesAsked c.args.packet.from.number c.in_ok-heard.heard.fresh t change (core_of c.hear_app.new.self))) (sym c.is_taken-taken.ensures) c.in_ok-heard.ensures.asks
 
 pub take_demand-requires-clause-small : goal.take_demand-requires-clause-small
 take_demand-requires-clause-small c = app_number c.args.packet c.requires.formed c.requires.from
 
 pub finished-requires-clause-role : goal.finished-requires-clause-role
-finished-requires-clause-role c = has_role c.in_ok-news.news _ (core_of c.hear_app.new.self) (core_of c.take_demand.new.self) c.in_ok-heard.ensures.near c.in_ok-news.ensures.changes
+finished-requires-clause-role c =
+    let e = c.in_ok-heard.ensures.heard in
+    let a = c.args.packet.from.number in
+    let only = subst (λ t. IsHeardOnly a c.in_ok-heard.heard.fresh t e.near.role) (sym c.is_taken-taken.ensures) e.only in
+    let told : (c.in_ok-heard.heard.fresh || c.is_taken-taken.result) ≡ true = search rules in
+    has_role c.in_ok-news.news _ (core_of c.hear_app.new.self) (core_of c.take_demand.new.self) e.near c.in_ok-news.ensures.changes
+    (told_demanding a c.in_ok-heard.heard.fresh c.is_taken-taken.result e.near.role only told)
 
 pub finished-requires-clause-within : goal.finished-requires-clause-within
-finished-requires-clause-within c = c.in_ok-news.ensures.changes.within c.args.steps (c.in_ok-heard.ensures.within c.args.steps c.requires.within)
+finished-requires-clause-within c = c.in_ok-news.ensures.changes.within c.args.steps (c.in_ok-heard.ensures.heard.within c.args.steps c.requires.within)
 
 pub returns : goal.returns
 returns c =
     let x = core_of c.args.self.now in
     let y = core_of c.hear_app.new.self in
-    let e = c.in_ok-heard.ensures in
+    let e = c.in_ok-heard.ensures.heard in
     let a = c.args.packet.from.number in
     let d = c.in_ok-news.ensures in
     record {

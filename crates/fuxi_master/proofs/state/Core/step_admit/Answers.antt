@@ -5,11 +5,13 @@ use Rattle.fuxi_master.specs.Commands.{admitting}
 use Rattle.fuxi_master.specs.Seen.{core_of}
 use Rattle.fuxi_master.specs.declared.event.MasterEvent.TheVariants.{Admit}
 use Rattle.fuxi_master.proofs.StepsLemmas.{has_role}
+use Rattle.fuxi_master.proofs.ToldAsHeardLemmas.{told_admitted}
 use Rattle.fuxi_master.proofs.AnswersAlike.{commanded, named_by, is_done}
 use Rattle.fuxi_master.proofs.state.Core.step_admit.Goals as goal
 
 pub finished-requires-clause-role : goal.finished-requires-clause-role
 finished-requires-clause-role c = has_role c.in_ok-core.news _ (core_of c.args.self) (core_of c.in_ok-core.core) c.requires.core.near c.in_ok-core.ensures.changes
+    (told_admitted (core_of c.args.self) c.requires.core.near.kept.epoch c.args.job.now c.requires.unknown c.requires.core.near.role c.requires.core.near.stands c.requires.core.told)
 
 pub finished-requires-clause-within : goal.finished-requires-clause-within
 finished-requires-clause-within c = c.in_ok-core.ensures.changes.within c.args.steps c.requires.within

@@ -3,11 +3,12 @@ use Rattle.written_roles.specs.MasterSteps.{Ends, ended_in}
 use Rattle.fuxi_master.specs.Seen.{core_of}
 use Rattle.fuxi_master.specs.declared.event.MasterEvent.TheVariants.{Finish}
 use Rattle.fuxi_master.proofs.StepsLemmas.{has_role}
+use Rattle.fuxi_master.proofs.ToldAsHeardLemmas.{told_ended}
 use Rattle.fuxi_master.proofs.AnswersAlike.{commanded, named_by, is_done}
 use Rattle.fuxi_master.proofs.state.Core.step_finish.Goals as goal
 
 pub finished-requires-clause-role : goal.finished-requires-clause-role
-finished-requires-clause-role c = has_role c.in_ok-news.news _ (core_of c.args.self.now) (core_of c.end_job.new.self) c.requires.core.near c.in_ok-news.ensures.changes
+finished-requires-clause-role c = has_role c.in_ok-news.news _ (core_of c.args.self.now) (core_of c.end_job.new.self) c.requires.core.near c.in_ok-news.ensures.changes (told_ended c.args.app.0 c.requires.core.near.role c.requires.core.told)
 
 pub finished-requires-clause-within : goal.finished-requires-clause-within
 finished-requires-clause-within c = c.in_ok-news.ensures.changes.within c.args.steps c.requires.within

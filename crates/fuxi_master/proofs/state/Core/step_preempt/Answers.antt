@@ -38,7 +38,7 @@ finished-requires-clause-role c =
     let x = core_of c.args.self.now in
     let y = core_of c.preempt.new.self in
     let made : Preempts true x y = subst (λ b. Preempts b x y) c.if-not-found.false c.in_ok-found.ensures in
-    has_room c.news-news.result x y c.requires.core.near (made c.news-news.result c.news-news.ensures)
+    has_room c.news-news.result x y c.requires.core (made c.news-news.result c.news-news.ensures)
 
 pub finished-requires-clause-within : goal.finished-requires-clause-within
 finished-requires-clause-within c =

@@ -10,7 +10,7 @@ invariant_of-self c =
     let items = c.self.inside.marks.items in
     let lt = subst (λ (xs : List MarkRecord). c.args.machine < length xs) (sym c.self.view_is) c.requires in
     let long = length-map items mark_of in
-    noted_set items c.args.machine c.lower.new.self c.self.inside.unsettled c.set.new.self c.self.inside.until (omega (arith, lt, long)) c.self.invariant (c.set.ensures.here ∙ c.may_have.ensures) c.set.ensures.others
+    noted_set items c.args.machine c.lower.new.self c.self.inside.keys.items c.number_of_mark-key.result c.self.inside.until (omega (arith, lt, long)) c.self.invariant c.number_of_mark-key.ensures
 
 pub returns-clause-marks : goal.returns-clause-marks
 returns-clause-marks c m =

@@ -10,7 +10,7 @@ invariant_of-self c =
     let items = c.self.inside.marks.items in
     let lt = subst (λ (xs : List MarkRecord). c.args.machine < length xs) (sym c.self.view_is) c.requires in
     let long = length-map items mark_of in
-    noted_set items c.args.machine c.args.mark c.renew.new.unsettled c.set.new.self c.renew.new.until (omega (arith, lt, long)) (c.renew.ensures (map mark_of items) c.self.invariant) (c.set.ensures.here ∙ c.may_have.ensures) c.set.ensures.others
+    noted_set items c.args.machine c.args.mark c.renew.new.keys.items c.number_of_mark-key.result c.renew.new.until (omega (arith, lt, long)) (c.renew.ensures (map mark_of items) c.self.invariant) c.number_of_mark-key.ensures
 
 pub returns-clause-marks : goal.returns-clause-marks
 returns-clause-marks c m =

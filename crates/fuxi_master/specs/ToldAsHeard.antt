@@ -1,0 +1,37 @@
+-- What a master was told of each job's demand, beside what was received of the job's application.
+use Rattle.std.specs.Prelude.{◌≡◌, ℕ, ℤ, Bool, true, false, nat_eq, ◌&&◌, ◌||◌, List}
+use Rattle.std.specs.Ordering.{nat_cmp}
+use Rattle.std.specs.FinMap.Entries.{put}
+use Rattle.fuxi_terms.specs.Cluster.{ClusterRecord}
+use Rattle.fuxi_terms.specs.declared.Key.{Key}
+use Rattle.fuxi_terms.specs.Jobs.{is_live}
+use Rattle.written_net.specs.Ledgers.{at_key, tally_ledger}
+use Rattle.written_net.specs.Channels.{app_id}
+use Rattle.written_roles.specs.Masters.{Master, asked, demand_of}
+use Rattle.written_roles.specs.MasterSteps.{counted}
+use Rattle.written_roles.specs.MasterRoles.{MasterRole}
+use Rattle.place_pass.specs.Placers.{is_named}
+use Rattle.allotment.specs.Allotted.{AllotmentRecord, Allots}
+
+-- of each job that lives, the demand is what was received of it in this epoch; but for some jobs
+pub record IsToldAsHeard (but : ℕ → Bool) (r : MasterRole) : Type 0 where
+  pub told : (a : ℕ) → but a ≡ false → is_live r.state.jobs a ≡ true → (r.sides (app_id a)).got.head ≡ r.state.epoch → demand_of r.state a ≡ counted r.cluster r.state.jobs a (r.sides (app_id a)).got
+
+-- an application was heard, and what came of it is not taken yet. Nothing was received of a new one of which no demand was taken
+pub record IsHeardOnly (a : ℕ) (fresh taken : Bool) (r : MasterRole) : Type 0 where
+  pub others : IsToldAsHeard (λ b. (fresh || taken) && nat_eq b a) r
+  pub bare : fresh ≡ true → taken ≡ false → (r.sides (app_id a)).got.head ≡ r.state.epoch → ⊥
+
+-- a demand asks of a job what was told of it, but at the keys that these changes name
+pub record AsksButAt (cs : List (Key × ℤ)) (a : ℕ) (es : List (Key × ℕ)) (x : AllotmentRecord) : Type 0 where
+  pub cluster : ClusterRecord
+  pub master : Master
+  pub allots : Allots x cluster master
+  pub asks : (k : Key) → is_named k cs ≡ false → asked master a k ≡ at_key (counted cluster master.jobs a (tally_ledger 0 es)) k
+
+-- a demand is taken over: nothing but what is asked changes
+pub record IsAsked (a : ℕ) (es : List (Key × ℕ)) (x y : AllotmentRecord) : Type 0 where
+  pub stands : (c : ClusterRecord) (M : Master) (head : ℕ) → Allots x c M → Allots y c (record M { demands = put nat_cmp a (counted c M.jobs a (tally_ledger head es)) M.demands })
+  pub table : y.table ≡ x.table
+  pub touched : y.touched ≡ x.touched
+  pub turns : y.placer.seen.turns ≡ x.placer.seen.turns

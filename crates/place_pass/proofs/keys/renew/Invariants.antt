@@ -1,0 +1,8 @@
+use Rattle.std.proofs.Common.{◌≡◌, ℕ, ◌<◌, length, get_or}
+use Rattle.place_pass.proofs.keys.renew.Given as goal
+
+abbrev pub invariant-loop-place : goal.invariant-loop-place
+invariant-loop-place l = record {
+  long : length l.keys.items ≡ length l.initial.keys.items;
+  done : (n : ℕ) → n < l.place → get_or l.keys.items n 0 ≡ 0;
+}
