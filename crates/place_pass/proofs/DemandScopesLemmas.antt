@@ -3,8 +3,6 @@ use Rattle.std.proofs.Common.{◌≡◌, ◌≢◌, ℕ, ℤ, ◌+◌, ◌<◌, 
 use Rattle.std.specs.Prelude.{◌||◌, pos}
 use Rattle.std.specs.Ordering.{eq_by_cmp, is_eq}
 use Rattle.std.specs.Cmp.{tied_itself}
-use Rattle.std.specs.declared.cmp.Ordering.{Ordering}
-use Rattle.std.specs.declared.cmp.Ordering.TheVariants.{Less, Equal, Greater}
 use Rattle.std.proofs.lemmas.Bool.{cases_eq, cases_lt}
 use Rattle.std.proofs.lemmas.Bool.Decides.{nat_tests}
 use Rattle.std.proofs.lemmas.List.{ext_get_or, get_or-set_same, get_or-set_other}
@@ -21,22 +19,18 @@ use Rattle.place_pass.specs.Cells.{Cell, no_cell, asks_at, asks_in, taken, taken
 use Rattle.place_pass.specs.Placers.{is_named, is_there}
 use Rattle.place_pass.specs.DemandScopes.{AsksSameBut, IsAlike, IsWritten, IsWrittenIn, asked_by, is_more_at}
 use Rattle.place_pass.proofs.CellsLemmas.{length-taken_all, get_or-taken_all}
+use Rattle.place_pass.proofs.DemandWalksLemmas.{equal}
 use Rattle.place_pass.proofs.IdleKept.{any_none, any_one}
 use Rattle.place_pass.proofs.PlacersLemmas.{asks_taken}
 use Rattle.place_pass.proofs.Places.{counted_at, counted_long, counted_past}
-use Rattle.place_pass.proofs.WaitingLinesLemmas.{any_append, or_none}
+use Rattle.place_pass.proofs.WaitingLinesLemmas.{any_append, either_one, or_none}
 
 -- ---- keys
 pub key_itself : (k : Key) → eq_by_cmp key_cmp k k ≡ true
 key_itself k = ap is_eq (tied_itself key_total k)
 
 pub key_is : (j k : Key) → eq_by_cmp key_cmp j k ≡ true → j ≡ k
-key_is j k e = same_key j k (tied (key_cmp j k) e)
-  where
-    tied : (o : Ordering) → is_eq o ≡ true → o ≡ Equal
-    tied Less e = cc
-    tied Equal e = refl
-    tied Greater e = cc
+key_is j k e = same_key j k (equal (key_cmp j k) e)
 
 -- keys of one kind and unit that differ have other numbers
 pub number_apart : (j k : Key) → eq_by_cmp key_cmp j k ≡ false → j.what ≡ k.what → j.unit ≡ k.unit → j.number ≢ k.number
@@ -151,10 +145,6 @@ written_none c es xs = record { long = refl; alike = λ u. alike_self (get_or xs
 pub more_none : (c : ClusterRecord) (es : List (Key × ℕ)) (xs : List Cell) → TellsMore c es [] xs false
 more_none c es xs = record { some = λ _. refl; none = λ _ k lt e. cc }
 
-pub either_true : (p q : Bool) → (p || q) ≡ true → (p ≡ true) ⊎ (q ≡ true)
-either_true true q e = inl refl
-either_true false q e = inr e
-
 -- where nothing is more, nothing is so at any key
 more_nowhere : (c : ClusterRecord) (es : List (Key × ℕ)) (xs : List Cell) → any_more c es xs (length xs) ≡ false → (k : Key) → k.unit < length xs → length (get_or xs k.unit no_cell).avoided ≡ length c.machines
     → is_more_at k (asks_at (get_or xs k.unit no_cell) k) (asked_by c es k) ≡ false
@@ -203,7 +193,7 @@ module _ (c : ClusterRecord) (es : List (Key × ℕ)) (cs : List (Key × ℤ)) (
     ];
     done = λ k lt e. elim (cases_eq k.unit d.0.unit) [
       | inl q ↦ at_unit k q lt (eq_by_cmp key_cmp k d.0) refl (sym (named_more cs i d k is) ∙ e)
-      | inr f ↦ elsewhere k f lt (either_true (is_named k (take i cs)) (eq_by_cmp key_cmp k d.0) (sym (named_more cs i d k is) ∙ e))
+      | inr f ↦ elsewhere k f lt (either_one (is_named k (take i cs)) (eq_by_cmp key_cmp k d.0) (sym (named_more cs i d k is) ∙ e))
     ];
     left = λ k e.
         let b = both_false (is_named k (take i cs)) (eq_by_cmp key_cmp k d.0) (sym (named_more cs i d k is) ∙ e) in
@@ -237,7 +227,7 @@ module _ (c : ClusterRecord) (es : List (Key × ℕ)) (cs : List (Key × ℤ)) (
     ]);
     none = λ e k lt named.
         let b = both_false more one e in
-        by k lt b.0 b.1 (either_true (is_named k (take i cs)) (eq_by_cmp key_cmp k d.0) (sym (named_more cs i d k is) ∙ named));
+        by k lt b.0 b.1 (either_one (is_named k (take i cs)) (eq_by_cmp key_cmp k d.0) (sym (named_more cs i d k is) ∙ named));
   }
     where
       quiet : d.0.unit < length now → any_more c es before (length before) ≡ false → (t : Bool) → is_named d.0 (take i cs) ≡ t → is_more_at d.0 (asks_at (get_or now d.0.unit no_cell) d.0) (asked_by c es d.0) ≡ false

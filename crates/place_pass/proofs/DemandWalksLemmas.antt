@@ -28,7 +28,7 @@ sorted_rest zero es h = h
 sorted_rest (suc n) [] h = tt
 sorted_rest (suc n) (e ∷ es) h = sorted_rest n es (both_true (below_all key_cmp e.0 es) _ h).1
 
-equal : (o : Ordering) → is_eq o ≡ true → o ≡ Equal
+pub equal : (o : Ordering) → is_eq o ≡ true → o ≡ Equal
 equal Less e = cc
 equal Equal e = refl
 equal Greater e = cc

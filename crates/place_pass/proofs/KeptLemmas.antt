@@ -17,7 +17,7 @@ use Rattle.fuxi_terms.proofs.Booleans.{both_true, and_true, number_is, nat_itsel
 use Rattle.fuxi_terms.proofs.Sums.{sum_set}
 use Rattle.written_roles.specs.Placing.{has_pair}
 use Rattle.grant_table.specs.GrantTables.{TableRecord, as_known}
-use Rattle.place_pass.specs.Bounds.{MarkRecord, mark_at, turn_at, Rises, Numbered, IsBounded, after_taking, is_nearer_in, key_of, no_groups, reset_mark, lowered_mark}
+use Rattle.place_pass.specs.Bounds.{MarkRecord, mark_at, turn_at, IsRising, Rises, Numbered, IsBounded, after_taking, is_nearer_in, key_of, no_groups, reset_mark, lowered_mark}
 use Rattle.place_pass.specs.Cells.{Cell, AvoidsStill}
 use Rattle.place_pass.specs.WaitingLines.{same_pair}
 use Rattle.place_pass.specs.Placers.{KeptRecord, IsKept, IsSetFrom, board_over, is_open_to}
@@ -35,6 +35,9 @@ rises_filter f q (x ∷ xs) h = elim (q x) as (λ b. Rises f (cond b (x ∷ filt
   | true ↦ (all_filter (λ (y : Pair). f x < f y) q xs h.0, rises_filter f q xs h.1)
   | false ↦ rises_filter f q xs h.1
 ]
+
+pub rising_filter : (f : Pair → ℕ) (q : Pair → Bool) (xs : List Pair) → IsRising f xs → IsRising f (filter q xs)
+rising_filter f q xs h = rising f (filter q xs) (rises_filter f q xs (rising_all f xs h))
 
 has_later : (p x : Pair) (xs : List Pair) → has_pair p xs ≡ true → has_pair p (x ∷ xs) ≡ true
 has_later p x xs h = or_later (same_pair p x) (has_pair p xs) h

@@ -8,21 +8,20 @@ use Rattle.fuxi_terms.specs.Keys.{Pair}
 use Rattle.fuxi_terms.proofs.Alls.{all_filter}
 use Rattle.fuxi_terms.proofs.Booleans.{both_true}
 use Rattle.fuxi_terms.proofs.Lists.{all_at}
-use Rattle.fuxi_terms.specs.Tables.{Table}
 use Rattle.written_roles.specs.Placing.{has_pair}
 use Rattle.grant_table.specs.GrantTables.{TableRecord}
-use Rattle.locality_tree.specs.Trees.{TreeRecord, unit_at, is_admitted}
+use Rattle.locality_tree.specs.Trees.{TreeRecord, is_admitted}
 use Rattle.place_pass.specs.Best.{AreAdmitted}
 use Rattle.place_pass.specs.Bounds.{turn_at, Rises}
 use Rattle.place_pass.specs.Cells.{Cell, AreWishes}
 use Rattle.place_pass.specs.Placers.{KeptRecord, IsKept}
-use Rattle.place_pass.specs.PlacerTrees.{Holds, HoldsLine, AllStand}
+use Rattle.place_pass.specs.PlacerTrees.{Holds, HoldsLine}
 use Rattle.place_pass.proofs.CellsLemmas.{placed}
 use Rattle.place_pass.proofs.FirstByTurn.{has_at}
 use Rattle.place_pass.proofs.KeptLemmas.{kept_lined, rises_filter}
 use Rattle.place_pass.proofs.WaitingLinesLemmas.{has_filter}
 use Rattle.place_pass.proofs.NumberedLemmas.{numbered_end, has_end}
-use Rattle.place_pass.proofs.PlacerTreesLemmas.{admitted_in, holds_same, stands_on}
+use Rattle.place_pass.proofs.PlacerTreesLemmas.{admitted_in}
 use Rattle.place_pass.proofs.StandsAfterChange.{holds_turned}
 use Rattle.place_pass.proofs.StillLemmas.{joined_is, others_stay}
 
@@ -61,20 +60,15 @@ module _ {line front all other : List Pair} {stayed : ℕ} {q : Pair → Bool} {
       (kept_lined cells o line front joined turns k t turn_of q up.kept not_had (numbered_end (λ (p : Pair). turn_at turn_of p.0 p.1) turns stayed front joined other lined_is up.long numbered) (λ a u has _. turns_stay a u has) h)
 
   -- those that stay are the first of the new line
-  front_taken : (p : Pair) → has_pair p (take stayed other) ≡ (has_pair p line && q p)
-  front_taken p = ap (λ n. has_pair p (take n other)) up.long ∙ ap (λ l. has_pair p (take (length front) l)) lined_is ∙ ap (has_pair p) (take-append_seam front joined) ∙ ap (has_pair p) up.kept ∙ has_filter q p line
+  pub front_is : take stayed other ≡ front
+  front_is = ap (λ n. take n other) up.long ∙ ap (take (length front)) lined_is ∙ take-append_seam front joined
 
   pub front_inside : stayed ≤ length other
   front_inside = let l = ap length lined_is ∙ length-append front joined in let n = up.long in omega (arith, l, n)
 
-  pub front_holds : (c : ClusterRecord) (cells : List (List Cell)) (t : TreeRecord) → Holds c cells (λ p. has_pair p line && q p) k.turn_of t → HoldsLine c cells (take stayed other) turn_of t
-  front_holds c cells t h = holds_same c cells (λ p. has_pair p line && q p) (λ p. has_pair p (take stayed other)) turn_of t (λ a u. front_taken (a, u))
-      (holds_turned c cells (λ p. has_pair p line && q p) k.turn_of turn_of t (λ a u w. turns_stay a u (both_true (has_pair (a, u) line) (q (a, u)) w).0) h)
-
-  pub front_stands : (c : ClusterRecord) (cells : List (List Cell)) (es : Table) (t t' : TreeRecord) → t'.racks ≡ t.racks → ((a u : ℕ) → u < 8 → q (a, u) ≡ true → unit_at t' a u ≡ unit_at t a u) → AllStand c cells es line t → AllStand c cells es (take stayed other) t'
-  front_stands c cells es t t' racks same h a u has =
-      let b = both_true (has_pair (a, u) line) (q (a, u)) (sym (front_taken (a, u)) ∙ has) in
-      stands_on c cells es a u t t' racks (same a u (up.small a u b.0) b.1) (h a u b.0)
+  pub front_holds : (c : ClusterRecord) (cells : List (List Cell)) (t : TreeRecord) → HoldsLine c cells front k.turn_of t → HoldsLine c cells (take stayed other) turn_of t
+  front_holds c cells t h = subst (λ (l : List Pair). HoldsLine c cells l turn_of t) (sym front_is)
+      (holds_turned c cells (λ p. has_pair p front) k.turn_of turn_of t (λ a u has. turns_stay a u (both_true (has_pair (a, u) line) (q (a, u)) (sym (ap (has_pair (a, u)) up.kept ∙ has_filter q (a, u) line) ∙ has)).0) h)
 
 -- ---- a line that one unit leaves unless it waits
 module _ (line : List Pair) (waits : Bool) (a u : ℕ) where

@@ -11,7 +11,8 @@ use Rattle.place_pass.specs.Cells.{Cell, Lifts, no_cell}
 use Rattle.place_pass.specs.Placers.{is_named}
 use Rattle.place_pass.specs.Sights.{IsAsked}
 use Rattle.place_pass.specs.DemandScopes.{AsksSameBut}
-use Rattle.place_pass.proofs.DemandScopesLemmas.{either_true, key_is, named_more}
+use Rattle.place_pass.proofs.DemandScopesLemmas.{key_is, named_more}
+use Rattle.place_pass.proofs.WaitingLinesLemmas.{either_one}
 use Rattle.place_pass.proofs.Places.{counted_at}
 
 -- a mark after a demand was told at the keys that changes name
@@ -30,7 +31,7 @@ module _ (es : List (Key × ℕ)) (xs : List Cell) (cs : List (Key × ℤ)) (i :
     lifted = h.lifted;
     is = h.is;
     some = h.some;
-    none = λ f u lt named was. by f u lt was (either_true (is_named (avoid_key u m) (take i cs)) (eq_by_cmp key_cmp (avoid_key u m) d.0) (sym (named_more cs i d (avoid_key u m) is) ∙ named));
+    none = λ f u lt named was. by f u lt was (either_one (is_named (avoid_key u m) (take i cs)) (eq_by_cmp key_cmp (avoid_key u m) d.0) (sym (named_more cs i d (avoid_key u m) is) ∙ named));
   }
     where
       by : h.lifted ≡ false → (u : ℕ) → u < length xs → 0 < get_or (get_or xs u no_cell).avoided m 0 → (is_named (avoid_key u m) (take i cs) ≡ true) ⊎ (eq_by_cmp key_cmp (avoid_key u m) d.0 ≡ true) → 0 < count key_cmp es (avoid_key u m)

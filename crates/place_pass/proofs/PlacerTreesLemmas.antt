@@ -104,17 +104,6 @@ module _ (t t' : TreeRecord) (a u : ℕ) (s : UnitState) (is : t' ≡ record t {
         | false ↦ λ x. h.few b v (sym (same b v x) ∙ w)
       ] refl
 
-pub holds_same : (c : ClusterRecord) (cells : List (List Cell)) (waits now : Pair → Bool) (turns : List ℕ) (t : TreeRecord) → ((a u : ℕ) → now (a, u) ≡ waits (a, u)) → Holds c cells waits turns t → Holds c cells now turns t
-holds_same c cells waits now turns t e h = record {
-  racks = h.racks;
-  all = h.all;
-  places = h.places;
-  few = λ a u w. h.few a u (sym (e a u) ∙ w);
-  entry = λ a u w. h.entry a u (sym (e a u) ∙ w);
-  none = λ a u lu w. h.none a u lu (sym (e a u) ∙ w);
-  nowhere = λ a u place lu w. h.nowhere a u place lu (sym (e a u) ∙ w);
-}
-
 -- ---- a unit stands in other queues
 pub restood_self : (n : ℕ) (t : TreeRecord) → Restood n t t
 restood_self n t = record { racks = refl; count = refl; entries = λ k. refl; widths = λ k. refl; others = λ k d. refl }

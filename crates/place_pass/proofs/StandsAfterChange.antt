@@ -19,7 +19,7 @@ use Rattle.place_pass.specs.WaitingLines.{same_pair}
 use Rattle.place_pass.specs.PlacerTrees.{entry_for, Holds, HoldsLine, StandsAs, AllStand, Restood, RestoodAt}
 use Rattle.place_pass.proofs.BoundsAfterChange.{count_stays, rack_stays}
 use Rattle.place_pass.proofs.WaitingLinesLemmas.{has_filter, pair_is, pair_turned}
-use Rattle.place_pass.proofs.PlacerTreesLemmas.{nowhere_in, numbers_apart, racks_long, stands_on}
+use Rattle.place_pass.proofs.PlacerTreesLemmas.{apart_when, nowhere_in, numbers_apart, racks_long, stands_on}
 
 -- ---- the number at one spot is set
 module _ (c : ClusterRecord) (cells : List (List Cell)) (es : Table) (a u m n : ℕ) (sorted : T (is_sorted spot_cmp es)) where
@@ -69,12 +69,9 @@ module _ (c : ClusterRecord) (cells : List (List Cell)) (es : Table) (a u m n : 
       last true false z e = refl
       last false y z e = refl
 
-  -- a line without the unit
-  pub all_left : (line line' : List Pair) (t t' : TreeRecord) → ((b v : ℕ) → has_pair (b, v) line' ≡ true → (has_pair (b, v) line ≡ true) × (same_pair (b, v) (a, u) ≡ false)) → t'.racks ≡ t.racks
-      → ((b v : ℕ) → has_pair (b, v) line ≡ true → same_pair (b, v) (a, u) ≡ false → unit_at t' b v ≡ unit_at t b v) → AllStand c cells es line t → AllStand c cells told line' t'
-  all_left line line' t t' less racks same h b v has =
-      let x = less b v has in
-      stands_on c cells told b v t t' racks (same b v x.0 x.1) (stands_other b v t x.1 (h b v x.0))
+  -- a line that the unit does not stand in
+  pub all_apart : (line : List Pair) (t : TreeRecord) → has_pair (a, u) line ≡ false → AllStand c cells es line t → AllStand c cells told line t
+  all_apart line t out h b v has = stands_other b v t (pair_turned (b, v) (a, u) ∙ apart_when (λ p. has_pair p line) (b, v) (a, u) has out) (h b v has)
 
   -- and one in which it stays
   pub all_told : (line : List Pair) (t t' : TreeRecord) → ((b v : ℕ) → has_pair (b, v) line ≡ true → v < 8) → has_pair (a, u) line ≡ true → m < length c.machines → rack_of c m < 64 → t.racks ≡ racks_of c → Restood (unit_number a u) t t'
@@ -90,18 +87,6 @@ others_in a u line = filter (λ p. not (nat_eq p.0 a && nat_eq p.1 u)) line
 
 pub has_others : (a u : ℕ) (line : List Pair) (p : Pair) → has_pair p (others_in a u line) ≡ (has_pair p line && not (same_pair p (a, u)))
 has_others a u line p = has_filter (λ p. not (nat_eq p.0 a && nat_eq p.1 u)) p line
-
--- a unit that is not there leaves it as it is
-pub none_leaves : (a u : ℕ) (line : List Pair) (w : Bool) (p : Pair) → has_pair (a, u) line ≡ false → has_pair p (cond w line (others_in a u line)) ≡ has_pair p line
-none_leaves a u line true p out = refl
-none_leaves a u line false p out = has_others a u line p ∙ elim (same_pair p (a, u)) as (λ t. same_pair p (a, u) ≡ t → (has_pair p line && not t) ≡ has_pair p line) [
-  | true ↦ λ t. let e : has_pair p line ≡ false = ap (λ q. has_pair q line) (pair_is p (a, u) t) ∙ out in ap (λ b. b && false) e ∙ sym e
-  | false ↦ λ _. all (has_pair p line)
-] refl
-  where
-    all : (b : Bool) → (b && true) ≡ b
-    all true = refl
-    all false = refl
 
 pub apart_from : (a u : ℕ) (line : List Pair) (p : Pair) → has_pair p (others_in a u line) ≡ true → (has_pair p line ≡ true) × (same_pair p (a, u) ≡ false)
 apart_from a u line p has =

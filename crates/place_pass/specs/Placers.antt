@@ -187,16 +187,15 @@ pub record IsSetFrom (before after : TableRecord) (s : Spot) : Type 0 where
   pub number : ℕ
   pub is : after ≡ record before { entries = set_count spot_cmp before.entries s number }
 
--- what the fields of a placer show, and what they keep: the line has admitted units alone, both lines have room for all of them, and exactly the pairs of the line wait in the tree
+-- what the fields of a placer show, and what they keep: the line has admitted units alone and room for all of them, and exactly the pairs of the line wait in the tree
 abbrev pub placer_record : WishesRecord → LineRecord → ℕ → Bool → List MarkRecord → List ℕ → List ℕ → TreeRecord → Bool → List Bool → PlacerRecord
 placer_record w line turns idle marks turn_of held tree forgotten calm = record { seen = record { cluster = w.cluster; cells = w.cells; opened = w.opened; line = line.pairs; turns = turns }; idle = idle; kept = record { marks = marks; turn_of = turn_of; held = held }; tree = tree; forgotten = forgotten; calm = calm }
 
-pub record IsPlacer (w : WishesRecord) (line other : LineRecord) (units marks : ℕ) (turn_of : List ℕ) (held : ℕ) (tree : TreeRecord) (calm : ℕ) : Type 0 where
+pub record IsPlacer (w : WishesRecord) (line : LineRecord) (units marks : ℕ) (turn_of : List ℕ) (held : ℕ) (tree : TreeRecord) (calm : ℕ) : Type 0 where
   pub admitted : AllByRecursion (λ (p : Pair). p.1 < length (get_or w.cells p.0 [])) line.pairs
   pub places : length w.cells ≡ most_jobs
   pub counted : units ≡ units_in_all w.cells
   pub room : units_in_all w.cells ≤ line.room
-  pub other_room : units_in_all w.cells ≤ other.room
   pub marked : marks ≡ length w.cluster.machines
   pub turn_places : length turn_of ≡ unit_places
   pub held_places : held ≡ unit_places

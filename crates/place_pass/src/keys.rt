@@ -2,7 +2,7 @@
 
 ghost use Rattle.std.specs.Prelude.{◌≡◌, ℕ, ◌<◌, ◌≤◌, List, length, true, is_some};
 ghost use Rattle.std.proofs.Common.{get_or};
-ghost use Rattle.place_pass.specs.Bounds.{MarkRecord, mark_of, mark_at, key_of};
+ghost use Rattle.place_pass.specs.Bounds.{MarkRecord, mark_of, key_of};
 ghost use Rattle.place_pass.specs.PackedRanks.{packed, no_rank, IsSmall, IsAbove};
 ghost use Rattle.place_pass.specs.NotedMarks.{AreNoted};
 

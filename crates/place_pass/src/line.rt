@@ -31,7 +31,7 @@ impl Model for Line {
 }
 
 impl Line {
-    ghost use Rattle.std.specs.Prelude.{◌≡◌, ℕ, ◌+◌, ◌<◌, ◌≤◌, ◌^◌, ◌++◌, ◌∷◌, ◌&&◌, [], false, not, nat_eq, length, filter, slice_get, Some, IfOk, OnOk, OnErr};
+    ghost use Rattle.std.specs.Prelude.{◌≡◌, ◌+◌, ◌<◌, ◌≤◌, ◌^◌, ◌++◌, ◌∷◌, ◌&&◌, [], false, not, nat_eq, length, filter, slice_get, Some, IfOk, OnOk};
     ghost use Rattle.std.specs.List.{IsDistinct};
     ghost use Rattle.fuxi_terms.specs.Limits.{most_jobs, most_units};
     ghost use Rattle.written_roles.specs.Placing.{has_pair};
@@ -94,15 +94,6 @@ impl Line {
             return false;
         }
         waits[slot(AppNo(app), UnitNo(unit))]
-    }
-
-    /// Takes all pairs out, and keeps the room.
-    pub(crate) fn clear(&mut self)
-        ensures pairs { self.new.pairs ≡ [] }
-        ensures room { self.old.room ≤ self.new.room }
-    {
-        self.pairs.clear();
-        self.waits.fill(false);
     }
 
     /// A new pair goes last. There must be room for it, so it takes no memory.

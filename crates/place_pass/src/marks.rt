@@ -1,6 +1,6 @@
 //! What is kept of each machine, so that one on which nothing can be placed earlier than before is not looked at again.
 
-ghost use Rattle.std.specs.Prelude.{◌≡◌, ℕ, ◌<◌, ◌≤◌, ◌&&◌, ◌||◌, ◌⊎◌, cond, nat_lt, nat_eq, true, false, List, None, Some, IfOk, [], ◌∷◌, length, map, set, replicate};
+ghost use Rattle.std.specs.Prelude.{◌≡◌, ℕ, ◌<◌, ◌≤◌, ◌&&◌, ◌⊎◌, cond, nat_lt, nat_eq, true, false, List, Some, IfOk, [], length, map, replicate};
 ghost use Rattle.std.proofs.Common.{get_or};
 ghost use Rattle.fuxi_terms.specs.Cluster.{rack_of};
 ghost use Rattle.fuxi_terms.specs.Jobs.{unit_count};

@@ -2,10 +2,10 @@
 
 use crate::line::Line;
 use crate::marks::{Marks, forget_groups, reset_one, tell};
-use crate::scope::{Scope, tell_marks, tell_tree};
+use crate::scope::{scope_of, tell_marks, tell_tree};
 use crate::search::{first, slot};
 use crate::standing::{enter_line, tell_spot};
-use crate::waiting::{calm_all, join, leave, leave_served, number_from, stir};
+use crate::waiting::{calm_all, join, leave, leave_unit, number_from, stir};
 use crate::wishes::{UNIT_PLACES, Wishes, fresh_units};
 use cluster_desc::Cluster;
 use fuxi_terms::limits::MOST_JOBS;
@@ -25,8 +25,6 @@ use std::sync::ledger::Ledger;
 pub struct Placer {
     wishes: Wishes,
     line: Line,
-    /// Where the next line is written.
-    other: Line,
     /// How many units are admitted.
     units: usize,
     turns: u64,
@@ -52,7 +50,6 @@ impl Drop for Placer {
         let Placer {
             wishes,
             line,
-            other,
             units,
             turns,
             idle,
@@ -75,11 +72,11 @@ impl Model for Placer {
 
     ghost use Rattle.std.specs.Prelude.{length};
 
-    ghost invariant = { λ p. IsPlacer p.wishes p.line p.other p.units (length p.marks) p.turn_of.items (length p.held.items) p.tree (length p.calm.items) };
+    ghost invariant = { λ p. IsPlacer p.wishes p.line p.units (length p.marks) p.turn_of.items (length p.held.items) p.tree (length p.calm.items) };
 }
 
 impl Placer {
-    ghost use Rattle.std.specs.Prelude.{◌≡◌, ◌↔◌, ℕ, ◌+◌, ◌<◌, ◌≤◌, ◌^◌, ◌&&◌, ◌||◌, Bool, true, false, not, nat_eq, nat_lt, cond, List, [], length, filter, map, replicate, Some, None, IfOk, IfSome, OnOk, OnErr};
+    ghost use Rattle.std.specs.Prelude.{◌≡◌, ℕ, ◌+◌, ◌<◌, ◌≤◌, ◌^◌, ◌&&◌, ◌||◌, true, false, not, nat_eq, nat_lt, cond, [], length, filter, replicate, Some, None, IfOk, IfSome, OnOk, OnErr};
     ghost use Rattle.std.specs.Option.{is_none, option_map};
     ghost use Rattle.fuxi_terms.specs.declared.Key.{Key};
     ghost use Rattle.fuxi_terms.specs.Keys.{spot_cmp};
@@ -91,11 +88,9 @@ impl Placer {
     ghost use Rattle.written_roles.specs.Placing.{first_in, lined, has_pair};
     ghost use Rattle.grant_table.specs.GrantTables.{TableRecord, as_known, with_admitted};
     ghost use Rattle.place_pass.specs.PlacerTrees.{TreeOf};
-    ghost use Rattle.std.proofs.Common.{get_or};
-    ghost use Rattle.place_pass.specs.DemandScopes.{AsksWithin};
     ghost use Rattle.place_pass.specs.Best.{spot_of};
     ghost use Rattle.place_pass.specs.SearchCounts.{IsLifted, IsTight, StaysTight, is_unsettled, unsettled_machines};
-    ghost use Rattle.place_pass.specs.Placers.{AreAllowed, SeenRecord, job_seen, asks_seen, asks_after, is_open, units_seen, IsLevelWith, IsUpToDate, IsSetFrom, IsGrantable, board_with, waiting_with, line_told, AsksNoMore, AsksOtherwiseAt};
+    ghost use Rattle.place_pass.specs.Placers.{AreAllowed, job_seen, asks_seen, asks_after, is_open, units_seen, IsLevelWith, IsUpToDate, IsSetFrom, IsGrantable, board_with, waiting_with, line_told, AsksNoMore, AsksOtherwiseAt};
 
     /// A placer of a cluster, with no job, and with no machine open. It is level with the empty table. Where memory
     /// is refused there is no placer.
@@ -110,11 +105,9 @@ impl Placer {
         let tree = Tree::start(alloc, cluster)?;
         let calm = Vec::from_elem(alloc, false, MOST_JOBS as usize)?;
         let line = Line::new(alloc)?;
-        let other = Line::new(alloc)?;
         Ok(Placer {
             wishes,
             line,
-            other,
             units: 0,
             turns: 0,
             idle: false,
@@ -143,7 +136,6 @@ impl Placer {
         let _cluster = self.wishes.cluster();
         let units = self.units + job.units() as usize;
         self.line.reserve(units)?;
-        self.other.reserve(units)?;
         let machines = self.wishes.cluster().machines() as usize;
         let fresh = fresh_units(alloc, job, machines)?;
         self.tree.admit(alloc, job)?;
@@ -155,54 +147,20 @@ impl Placer {
 
     /// The demand of an admitted job is now this one. Its entries for a unit, machine or rack that is not there
     /// count as absent. An idle placer stays so where no want rises and each avoided machine is avoided still.
-    /// Of a tight placer at most the machines that a unit no longer avoids become unsettled.
-    pub fn asked(&mut self, table: &GrantTable, app: AppNo, demand: &Demand)
-        requires cluster { self.old.seen.cluster ≡ table.now.cluster }
-        requires here { 0 < units_seen self.old.seen app.0 }
-        requires there { is_known (as_known table.now.jobs) app.0 ≡ true }
-        ensures asks { (a : ℕ) (k : Key) → asks_seen self.new.seen a k ≡ asks_after self.old.seen app.0 demand.now.entries a k }
-        ensures jobs { (a : ℕ) → job_seen self.new.seen a ≡ job_seen self.old.seen a }
-        ensures rest { self.new.seen ≡ record self.old.seen { cells = self.new.seen.cells } }
-        ensures level { IsLevelWith self.old table.now → IsLevelWith self.new table.now }
-        ensures idle { AsksNoMore (asks_seen self.old.seen) (asks_seen self.new.seen) app.0 → self.new.idle ≡ self.old.idle }
-        ensures tight { IsTight self.old → StaysTight self.old self.new (IsLifted (asks_seen self.old.seen) (asks_seen self.new.seen) app.0) }
-    {
-        let _wishes = self.wishes.cluster();
-        let differing = self.wishes.differing(app, demand);
-        self.heard(table, app, demand, &Scope::Units(differing));
-    }
-
-    /// The same, of a demand that asks otherwise than before only at keys that these changes name: no other key is looked up. The
+    /// Of a tight placer at most the machines that a unit no longer avoids become unsettled. Where the changes are
+    /// given the demand asks otherwise than before only at keys that they name, and no other key is looked up. The
     /// amounts of the changes are not read.
-    pub fn asked_at(
+    pub fn asked(
         &mut self,
         table: &GrantTable,
         app: AppNo,
         demand: &Demand,
-        changes: &[(Key, i64)],
+        changes: Option<&[(Key, i64)]>,
     )
         requires cluster { self.old.seen.cluster ≡ table.now.cluster }
         requires here { 0 < units_seen self.old.seen app.0 }
         requires there { is_known (as_known table.now.jobs) app.0 ≡ true }
-        requires told { AsksOtherwiseAt changes.now self.old.seen app.0 demand.now.entries }
-        ensures asks { (a : ℕ) (k : Key) → asks_seen self.new.seen a k ≡ asks_after self.old.seen app.0 demand.now.entries a k }
-        ensures jobs { (a : ℕ) → job_seen self.new.seen a ≡ job_seen self.old.seen a }
-        ensures rest { self.new.seen ≡ record self.old.seen { cells = self.new.seen.cells } }
-        ensures level { IsLevelWith self.old table.now → IsLevelWith self.new table.now }
-        ensures idle { AsksNoMore (asks_seen self.old.seen) (asks_seen self.new.seen) app.0 → self.new.idle ≡ self.old.idle }
-        ensures tight { IsTight self.old → StaysTight self.old self.new (IsLifted (asks_seen self.old.seen) (asks_seen self.new.seen) app.0) }
-    {
-        let _wishes = self.wishes.cluster();
-        let counts = demand.entries();
-        self.heard(table, app, demand, &Scope::Keys(changes));
-    }
-
-    // What both do, of a demand that asks otherwise than before only in a scope.
-    fn heard(&mut self, table: &GrantTable, app: AppNo, demand: &Demand, scope: &Scope)
-        requires cluster { self.old.seen.cluster ≡ table.now.cluster }
-        requires here { 0 < units_seen self.old.seen app.0 }
-        requires there { is_known (as_known table.now.jobs) app.0 ≡ true }
-        requires within { AsksWithin scope.now self.old.seen.cluster demand.now.entries (get_or self.old.seen.cells app.0 []) }
+        requires told { IfSome changes (λ c. AsksOtherwiseAt c.now self.old.seen app.0 demand.now.entries) }
         ensures asks { (a : ℕ) (k : Key) → asks_seen self.new.seen a k ≡ asks_after self.old.seen app.0 demand.now.entries a k }
         ensures jobs { (a : ℕ) → job_seen self.new.seen a ≡ job_seen self.old.seen a }
         ensures rest { self.new.seen ≡ record self.old.seen { cells = self.new.seen.cells } }
@@ -212,8 +170,9 @@ impl Placer {
     {
         let counts = demand.entries();
         let _wishes = self.wishes.cluster();
-        tell_marks(&mut self.marks, &self.wishes, app, demand, scope);
-        let more = self.wishes.hear(app, demand, scope);
+        let scope = scope_of(&self.wishes, app, demand, changes);
+        tell_marks(&mut self.marks, &self.wishes, app, demand, &scope);
+        let more = self.wishes.hear(app, demand, &scope);
         stir(&mut self.calm, app);
         self.idle &= !more;
         tell_tree(
@@ -223,7 +182,7 @@ impl Placer {
             &self.turn_of,
             table,
             app,
-            scope,
+            &scope,
         );
     }
 
@@ -255,6 +214,15 @@ impl Placer {
             self.held[place],
         );
         self.held[place] = table.held(app, unit);
+        leave_unit(
+            &mut self.line,
+            &mut self.tree,
+            &self.wishes,
+            &self.turn_of,
+            table,
+            app,
+            unit,
+        );
         tell_spot(
             &mut self.tree,
             &self.line,
@@ -265,7 +233,6 @@ impl Placer {
             unit,
             machine,
         );
-        leave_served(&mut self.line, &self.wishes, table, app, unit);
     }
 
     /// The machine is reported and not banned, or it is not. An idle placer stays so unless a closed machine is
@@ -307,7 +274,6 @@ impl Placer {
         let before = self.line.len();
         leave(
             &mut self.line,
-            &mut self.other,
             &mut self.tree,
             &self.wishes,
             &self.turn_of,

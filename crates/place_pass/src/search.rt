@@ -3,7 +3,7 @@
 //! there, and else the pairs that were appended since are looked at. A unit that has its greatest number on a machine is passed there
 //! like one that does not fit.
 
-ghost use Rattle.std.specs.Prelude.{◌≡◌, ℕ, ◌+◌, ◌*◌, ◌<◌, ◌≤◌, ◌&&◌, ◌⊎◌, ◌≢◌, Option, List, true, false, IsTrue, [], ◌∷◌, ◌++◌, length, map, None, Some, slice_get, not, nat_eq, cond, IfSome, IsSomeAnd};
+ghost use Rattle.std.specs.Prelude.{◌≡◌, ℕ, ◌+◌, ◌*◌, ◌<◌, ◌≤◌, ◌&&◌, ◌⊎◌, ◌≢◌, Option, List, true, false, [], ◌∷◌, ◌++◌, length, None, Some, slice_get, not, nat_eq, cond, IfSome, IsSomeAnd};
 ghost use Rattle.std.proofs.Common.{get_or};
 ghost use Rattle.std.specs.Option.{is_none, option_map};
 ghost use Rattle.fuxi_terms.specs.Vectors.{at_place};

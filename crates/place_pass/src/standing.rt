@@ -1,20 +1,19 @@
 //! The tree of the waiting pairs: who waits in it, and in which queues. No call takes memory.
 
-ghost use Rattle.std.specs.Prelude.{◌≡◌, ℕ, ◌<◌, ◌≤◌, ◌&&◌, ◌||◌, cond, nat_lt, nat_eq, not, [], Some, true, false, length, filter, take};
+ghost use Rattle.std.specs.Prelude.{◌≡◌, ℕ, ◌<◌, ◌≤◌, ◌||◌, nat_lt, nat_eq, [], Some, true, false, length, take};
 ghost use Rattle.std.proofs.Common.{get_or};
 ghost use Rattle.fuxi_terms.specs.Cluster.{rack_of};
 ghost use Rattle.fuxi_terms.specs.Jobs.{unit_count};
 ghost use Rattle.fuxi_terms.specs.Tables.{spot};
 ghost use Rattle.fuxi_terms.specs.Keys.{Pair};
-ghost use Rattle.written_roles.specs.Masters.{out_of};
 ghost use Rattle.written_roles.specs.Placing.{has_pair};
 ghost use Rattle.grant_table.specs.GrantTables.{TableRecord, as_known};
 ghost use Rattle.locality_tree.specs.Trees.{unit_at, unit_number, rack_place};
 ghost use Rattle.place_pass.specs.Best.{AreAdmitted};
 ghost use Rattle.place_pass.specs.Bounds.{IsRising, turn_at};
-ghost use Rattle.place_pass.specs.Cells.{asks_in, cell_of, job_at, unit_places};
+ghost use Rattle.place_pass.specs.Cells.{cell_of, job_at, unit_places};
 ghost use Rattle.place_pass.specs.Placers.{AreLevel, IsSetFrom};
-ghost use Rattle.place_pass.specs.PlacerTrees.{Holds, HoldsLine, AllStand, StandsAs, WaitsIn, Restood, RestoodAt, entry_for, is_unmet_on, is_unmet_in};
+ghost use Rattle.place_pass.specs.PlacerTrees.{HoldsLine, AllStand, StandsAs, WaitsIn, Restood, RestoodAt, entry_for, is_unmet_on, is_unmet_in};
 
 use crate::line::Line;
 use crate::search::turn_of_unit;
@@ -191,8 +190,8 @@ fn mark_spot(
     tree.mark_rack(entry, rack, in_rack);
 }
 
-/// Told that a unit has another number on a machine: with nothing out it waits no more, and else it stands in the queues of
-/// the machine and of its rack where it asks for more there.
+/// Told that a unit has another number on a machine: where it waits it stands in the queues of the machine and of its rack where it asks
+/// for more there.
 pub(crate) fn tell_spot(
     tree: &mut Tree,
     line: &Line,
@@ -208,11 +207,10 @@ pub(crate) fn tell_spot(
     requires there { unit.0 < unit_count (as_known table.now.jobs) app.0 }
     requires machine { machine.0 < length table.now.cluster.machines }
     requires places { length turn_of.now.items ≡ unit_places }
-    requires rises { IsRising (λ (p : Pair). turn_at turn_of.now.items p.0 p.1) line.now.pairs }
     requires holds { HoldsLine wishes.now.cluster wishes.now.cells line.now.pairs turn_of.now.items tree.old }
-    ensures holds { HoldsLine wishes.now.cluster wishes.now.cells (cond (nat_lt 0 (out_of (asks_in wishes.now.cells) table.now.entries app.0 unit.0)) line.now.pairs (filter (λ p. not (nat_eq p.0 app.0 && nat_eq p.1 unit.0)) line.now.pairs)) turn_of.now.items tree.new }
+    ensures holds { HoldsLine wishes.now.cluster wishes.now.cells line.now.pairs turn_of.now.items tree.new }
     ensures stands { (before : TableRecord) → IsSetFrom before table.now (spot app.0 unit.0 machine.0) → AllStand wishes.now.cluster wishes.now.cells before.entries line.now.pairs tree.old
-        → AllStand wishes.now.cluster wishes.now.cells table.now.entries (cond (nat_lt 0 (out_of (asks_in wishes.now.cells) table.now.entries app.0 unit.0)) line.now.pairs (filter (λ p. not (nat_eq p.0 app.0 && nat_eq p.1 unit.0)) line.now.pairs)) tree.new }
+        → AllStand wishes.now.cluster wishes.now.cells table.now.entries line.now.pairs tree.new }
 {
     let _table = table.cluster();
     let _wishes = wishes.cluster();
@@ -220,10 +218,6 @@ pub(crate) fn tell_spot(
         return;
     }
     let entry = entry_for(wishes, turn_of, app, unit);
-    if wishes.outstanding(table, app, unit) == 0 {
-        tree.refresh(&entry, false);
-        return;
-    }
     mark_spot(tree, &entry, wishes, table, machine);
 }
 
@@ -260,33 +254,6 @@ pub(crate) fn tell_asked(
         }
         let entry = entry_for(wishes, turn_of, app, UnitNo(number));
         mark_unit(tree, &entry, wishes, table);
-    }
-}
-
-/// The units of the line with nothing out wait no more.
-pub(crate) fn leave_line(
-    tree: &mut Tree,
-    line: &Line,
-    wishes: &Wishes,
-    turn_of: &Vec<u64>,
-    table: &GrantTable,
-)
-    requires level { AreLevel wishes.now.cluster (job_at wishes.now.cells) table.now }
-    requires admitted { AreAdmitted wishes.now.cells line.now.pairs }
-    requires places { length turn_of.now.items ≡ unit_places }
-    requires rises { IsRising (λ (p : Pair). turn_at turn_of.now.items p.0 p.1) line.now.pairs }
-    requires holds { HoldsLine wishes.now.cluster wishes.now.cells line.now.pairs turn_of.now.items tree.old }
-    ensures holds { Holds wishes.now.cluster wishes.now.cells (λ p. has_pair p line.now.pairs && nat_lt 0 (out_of (asks_in wishes.now.cells) table.now.entries p.0 p.1)) turn_of.now.items tree.new }
-    ensures others { (a u : ℕ) → u < 8 → nat_lt 0 (out_of (asks_in wishes.now.cells) table.now.entries a u) ≡ true → unit_at tree.new a u ≡ unit_at tree.old a u }
-{
-    let _wishes = wishes.cluster();
-    for place in 0..line.len() {
-        let (app, unit) = line.at(place);
-        if wishes.outstanding(table, app, unit) > 0 {
-            continue;
-        }
-        let entry = entry_for(wishes, turn_of, app, unit);
-        tree.refresh(&entry, false);
     }
 }
 

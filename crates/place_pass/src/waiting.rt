@@ -1,14 +1,12 @@
-//! The next line: who leaves it, and who begins to wait. Only the jobs are asked of which something was told since, and where none
-//! leaves the line is not written again. A line that loses pairs is written into a second one whose room was made when jobs were
-//! admitted, so it takes no memory.
+//! The next line: who leaves it, and who begins to wait. Only the jobs are asked of which something was told since. No call takes
+//! memory.
 
-ghost use Rattle.std.specs.Prelude.{◌≡◌, ℕ, ◌+◌, ◌<◌, ◌≤◌, ◌++◌, ◌∷◌, [], ◌&&◌, ◌-◌, ◌^◌, Some, slice_get, true, false, not, cond, nat_eq, nat_lt, length, filter, map};
+ghost use Rattle.std.specs.Prelude.{◌≡◌, ℕ, ◌+◌, ◌<◌, ◌≤◌, ◌++◌, ◌∷◌, [], ◌&&◌, ◌||◌, ◌-◌, ◌^◌, Some, slice_get, true, false, not, cond, nat_eq, nat_lt, length, filter, map};
 ghost use Rattle.std.proofs.Common.{get_or};
-ghost use Rattle.std.specs.List.{sum_by, flat_map};
 ghost use Rattle.fuxi_terms.specs.Cluster.{JobRecord};
 ghost use Rattle.fuxi_terms.specs.Jobs.{unit_count};
-ghost use Rattle.fuxi_terms.specs.Lists.{below};
 ghost use Rattle.fuxi_terms.specs.Keys.{Pair};
+ghost use Rattle.fuxi_terms.specs.Tables.{Table};
 ghost use Rattle.written_roles.specs.Masters.{out_of};
 ghost use Rattle.written_roles.specs.Placing.{has_pair, waiting_in};
 ghost use Rattle.grant_table.specs.GrantTables.{as_known, AreJobs};
@@ -17,18 +15,16 @@ ghost use Rattle.place_pass.specs.Placers.{AreLevel, IsStill};
 ghost use Rattle.place_pass.specs.Best.{AreAdmitted};
 ghost use Rattle.place_pass.specs.WaitingLines.{units_in_all, waiting_of};
 ghost use Rattle.place_pass.specs.Bounds.{IsRising, turn_at};
-ghost use Rattle.place_pass.specs.PlacerTrees.{Holds, HoldsLine};
-ghost use Rattle.locality_tree.specs.Trees.{unit_at};
+ghost use Rattle.place_pass.specs.PlacerTrees.{HoldsLine, AllStand};
 
 use crate::line::Line;
 use crate::search::slot;
-use crate::standing::leave_line;
+use crate::standing::entry_for;
 use crate::wishes::Wishes;
 use fuxi_terms::limits::MOST_JOBS;
 use grant_table::GrantTable;
 use locality_tree::Tree;
 use schedule_unit::{AppNo, UnitNo};
-use std::mem;
 
 /// Something was told of a job: its units may begin to wait or have nothing out any more.
 pub(crate) fn stir(calm: &mut Vec<bool>, app: AppNo)
@@ -69,86 +65,65 @@ fn add_unit(next: &mut Line, wishes: &Wishes, app: AppNo, unit: UnitNo)
     next.push(app.0, unit.0);
 }
 
-// Those of the line with something out, in their order.
-fn keep(next: &mut Line, line: &Line, wishes: &Wishes, table: &GrantTable)
-    requires empty { next.old.pairs ≡ [] }
-    requires level { AreLevel wishes.now.cluster (job_at wishes.now.cells) table.now }
-    requires admitted { AreAdmitted wishes.now.cells line.now.pairs }
-    requires room { units_in_all wishes.now.cells ≤ next.old.room }
-    ensures pairs { next.new.pairs ≡ filter (λ p. nat_lt 0 (out_of (asks_in wishes.now.cells) table.now.entries p.0 p.1)) line.now.pairs }
-    ensures admitted { AreAdmitted wishes.now.cells next.new.pairs }
-    ensures room { next.old.room ≤ next.new.room }
-{
-    line.distinct();
-    for place in 0..line.len() {
-        let (app, unit) = line.at(place);
-        if wishes.outstanding(table, app, unit) == 0 {
-            continue;
-        }
-        add_unit(next, wishes, app, unit);
-    }
-}
-
-/// Told that a unit has another number: with nothing out it leaves the line.
-pub(crate) fn leave_served(
+/// With nothing out a unit leaves the line and waits no more.
+pub(crate) fn leave_unit(
     line: &mut Line,
+    tree: &mut Tree,
     wishes: &Wishes,
+    turn_of: &Vec<u64>,
     table: &GrantTable,
     app: AppNo,
     unit: UnitNo,
 )
     requires here { unit.0 < length (get_or wishes.now.cells app.0 []) }
     requires there { unit.0 < unit_count (as_known table.now.jobs) app.0 }
+    requires places { length turn_of.now.items ≡ unit_places }
+    requires rises { IsRising (λ (p : Pair). turn_at turn_of.now.items p.0 p.1) line.old.pairs }
+    requires holds { HoldsLine wishes.now.cluster wishes.now.cells line.old.pairs turn_of.now.items tree.old }
     ensures pairs { line.new.pairs ≡ cond (nat_lt 0 (out_of (asks_in wishes.now.cells) table.now.entries app.0 unit.0)) line.old.pairs (filter (λ p. not (nat_eq p.0 app.0 && nat_eq p.1 unit.0)) line.old.pairs) }
     ensures room { line.new.room ≡ line.old.room }
+    ensures holds { HoldsLine wishes.now.cluster wishes.now.cells line.new.pairs turn_of.now.items tree.new }
+    ensures stands { (es : Table) → AllStand wishes.now.cluster wishes.now.cells es line.old.pairs tree.old → AllStand wishes.now.cluster wishes.now.cells es line.new.pairs tree.new }
 {
     let _wishes = wishes.cluster();
+    if !line.has(app.0, unit.0) {
+        return;
+    }
     if wishes.outstanding(table, app, unit) > 0 {
         return;
     }
+    let entry = entry_for(wishes, turn_of, app, unit);
+    tree.refresh(&entry, false);
     line.remove(app.0, unit.0);
 }
 
-// Whether a unit of one job stands in the line and has nothing out.
-fn one_leaves(line: &Line, wishes: &Wishes, table: &GrantTable, app: AppNo) -> bool
+// The units of one job with nothing out leave the line and wait no more.
+fn leave_units(
+    line: &mut Line,
+    tree: &mut Tree,
+    wishes: &Wishes,
+    turn_of: &Vec<u64>,
+    table: &GrantTable,
+    app: AppNo,
+)
     requires level { AreLevel wishes.now.cluster (job_at wishes.now.cells) table.now }
-    ensures { result ≡ false → (u : ℕ) → u < length (get_or wishes.now.cells app.0 []) → has_pair (app.0, u) line.now.pairs ≡ true → nat_lt 0 (out_of (asks_in wishes.now.cells) table.now.entries app.0 u) ≡ true }
+    requires admitted { AreAdmitted wishes.now.cells line.old.pairs }
+    requires places { length turn_of.now.items ≡ unit_places }
+    requires rises { IsRising (λ (p : Pair). turn_at turn_of.now.items p.0 p.1) line.old.pairs }
+    requires holds { HoldsLine wishes.now.cluster wishes.now.cells line.old.pairs turn_of.now.items tree.old }
+    ensures pairs { line.new.pairs ≡ filter (λ p. nat_lt 0 (out_of (asks_in wishes.now.cells) table.now.entries p.0 p.1) || not (nat_eq p.0 app.0)) line.old.pairs }
+    ensures room { line.new.room ≡ line.old.room }
+    ensures holds { HoldsLine wishes.now.cluster wishes.now.cells line.new.pairs turn_of.now.items tree.new }
+    ensures stands { AllStand wishes.now.cluster wishes.now.cells table.now.entries line.old.pairs tree.old → AllStand wishes.now.cluster wishes.now.cells table.now.entries line.new.pairs tree.new }
 {
-    let units = wishes.units(app) as u8;
-    for number in 0..units {
-        if !line.has(app.0, number) {
-            continue;
-        }
-        if wishes.outstanding(table, app, UnitNo(number)) == 0 {
-            return true;
-        }
+    for number in 0..wishes.units(app) as u8 {
+        leave_unit(line, tree, wishes, turn_of, table, app, UnitNo(number));
     }
-    false
 }
 
-// Whether a unit of the line has nothing out.
-fn any_leaves(line: &Line, wishes: &Wishes, calm: &Vec<bool>, table: &GrantTable) -> bool
-    requires level { AreLevel wishes.now.cluster (job_at wishes.now.cells) table.now }
-    requires admitted { AreAdmitted wishes.now.cells line.now.pairs }
-    requires still { IsStill wishes.now.cells line.now.pairs calm.now.items table.now }
-    ensures { result ≡ false → (a u : ℕ) → has_pair (a, u) line.now.pairs ≡ true → nat_lt 0 (out_of (asks_in wishes.now.cells) table.now.entries a u) ≡ true }
-{
-    let _wishes = wishes.cluster();
-    for number in 0..MOST_JOBS {
-        if is_calm(calm, AppNo(number)) {
-            continue;
-        }
-        if one_leaves(line, wishes, table, AppNo(number)) {
-            return true;
-        }
-    }
-    false
-}
-
-/// The units of the line with nothing out leave it and wait no more. Where there are none the line stays as it is.
+/// The units of the line with nothing out leave it and wait no more.
 pub(crate) fn leave(
     line: &mut Line,
-    other: &mut Line,
     tree: &mut Tree,
     wishes: &Wishes,
     turn_of: &Vec<u64>,
@@ -161,22 +136,20 @@ pub(crate) fn leave(
     requires rises { IsRising (λ (p : Pair). turn_at turn_of.now.items p.0 p.1) line.old.pairs }
     requires holds { HoldsLine wishes.now.cluster wishes.now.cells line.old.pairs turn_of.now.items tree.old }
     requires still { IsStill wishes.now.cells line.old.pairs calm.now.items table.now }
-    requires room { units_in_all wishes.now.cells ≤ line.old.room }
-    requires other_room { units_in_all wishes.now.cells ≤ other.old.room }
     ensures pairs { line.new.pairs ≡ filter (λ p. nat_lt 0 (out_of (asks_in wishes.now.cells) table.now.entries p.0 p.1)) line.old.pairs }
     ensures admitted { AreAdmitted wishes.now.cells line.new.pairs }
-    ensures room { units_in_all wishes.now.cells ≤ line.new.room }
-    ensures other_room { units_in_all wishes.now.cells ≤ other.new.room }
-    ensures holds { Holds wishes.now.cluster wishes.now.cells (λ p. has_pair p line.old.pairs && nat_lt 0 (out_of (asks_in wishes.now.cells) table.now.entries p.0 p.1)) turn_of.now.items tree.new }
-    ensures others { (a u : ℕ) → u < 8 → nat_lt 0 (out_of (asks_in wishes.now.cells) table.now.entries a u) ≡ true → unit_at tree.new a u ≡ unit_at tree.old a u }
+    ensures room { line.new.room ≡ line.old.room }
+    ensures holds { HoldsLine wishes.now.cluster wishes.now.cells line.new.pairs turn_of.now.items tree.new }
+    ensures stands { AllStand wishes.now.cluster wishes.now.cells table.now.entries line.old.pairs tree.old → AllStand wishes.now.cluster wishes.now.cells table.now.entries line.new.pairs tree.new }
 {
-    if !any_leaves(line, wishes, calm, table) {
-        return;
+    let _wishes = wishes.cluster();
+    for number in 0..MOST_JOBS {
+        let app = AppNo(number);
+        if is_calm(calm, app) {
+            continue;
+        }
+        leave_units(line, tree, wishes, turn_of, table, app);
     }
-    leave_line(tree, line, wishes, turn_of, table);
-    other.clear();
-    keep(other, line, wishes, table);
-    mem::swap(line, other);
 }
 
 // The units of one job that begin to wait go last, in their order.

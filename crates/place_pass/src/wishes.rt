@@ -1,19 +1,19 @@
 //! What the admitted units are and what is asked of them, by job number and unit, and the machines that are open.
 
-ghost use Rattle.std.specs.Prelude.{◌≡◌, ℕ, ◌+◌, ◌<◌, ◌≤◌, ◌&&◌, ◌||◌, Bool, T, true, false, nat_eq, nat_lt, min, cond, List, [], length, map, set, replicate, IfOk};
+ghost use Rattle.std.specs.Prelude.{◌≡◌, ℕ, ◌+◌, ◌<◌, ◌≤◌, ◌&&◌, ◌||◌, Bool, T, true, false, nat_eq, nat_lt, min, cond, [], length, set, replicate, IfOk};
 ghost use Rattle.std.specs.FinMap.Entries.{is_sorted};
 ghost use Rattle.std.proofs.Common.{get_or};
 ghost use Rattle.std.specs.List.{list_any};
 ghost use Rattle.fuxi_terms.specs.Keys.{key_cmp};
 ghost use Rattle.fuxi_terms.specs.Counts.{count};
 ghost use Rattle.fuxi_terms.specs.Cluster.{has_rack};
-ghost use Rattle.fuxi_terms.specs.TallyKeys.{key, rack_key};
+ghost use Rattle.fuxi_terms.specs.TallyKeys.{key};
 ghost use Rattle.fuxi_terms.specs.Limits.{most_jobs};
 ghost use Rattle.fuxi_terms.specs.Vectors.{fits};
 ghost use Rattle.std.specs.Ordering.{is_lt};
 ghost use Rattle.fuxi_terms.specs.Lists.{below};
 ghost use Rattle.place_pass.specs.DemandWalks.{IsPast, IsNextAsked};
-ghost use Rattle.place_pass.specs.Cells.{Cell, cell_of, cells_in, cells_of, cell_at, no_cell, fresh_cells, numbers_at, racks_at, taken, taken_all, is_gone, any_gone, asks_more, any_more};
+ghost use Rattle.place_pass.specs.Cells.{cell_of, cells_in, cells_of, cell_at, no_cell, fresh_cells, numbers_at, racks_at, taken, taken_all, is_gone, any_gone, asks_more, any_more};
 
 use crate::changes::write_changes;
 use cluster_desc::Cluster;
@@ -69,7 +69,7 @@ impl Model for Wishes {
 }
 
 impl Wishes {
-    ghost use Rattle.std.specs.Prelude.{◌≡◌, ℕ, ◌<◌, ◌≤◌, ◌&&◌, nat_lt, true, false, List, [], length, set, replicate, IfOk};
+    ghost use Rattle.std.specs.Prelude.{◌≡◌, ℕ, ◌<◌, ◌≤◌, ◌&&◌, nat_lt, true, false, [], length, set, replicate, IfOk};
     ghost use Rattle.std.proofs.Common.{get_or};
     ghost use Rattle.fuxi_terms.specs.Limits.{most_jobs};
     ghost use Rattle.fuxi_terms.specs.TallyKeys.{avoid_key};

@@ -142,7 +142,7 @@ impl Bench {
     pub fn ask(&mut self, app: AppNo, demand: &Demand) {
         law::levels();
         if self.table.units(app) > 0 {
-            self.placer.asked(&self.table, app, demand);
+            self.placer.asked(&self.table, app, demand, None);
         }
     }
 

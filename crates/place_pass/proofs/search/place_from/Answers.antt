@@ -1,4 +1,4 @@
-use Rattle.std.proofs.Common.{ℕ, ◌-◌, ◌<◌, subst, arith, inl, inr}
+use Rattle.std.proofs.Common.{◌-◌, ◌<◌, subst, arith, inl, inr}
 use Rattle.std.proofs.lemmas.Bool.{cases_lt}
 use Rattle.fuxi_terms.specs.Keys.{Pair}
 use Rattle.place_pass.specs.Sights.{turn_in}

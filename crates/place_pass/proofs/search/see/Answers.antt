@@ -1,4 +1,4 @@
-use Rattle.std.proofs.Common.{◌≡◌, ℕ, ◌<◌, true, Option, None, Some, [], not, length, get_or, refl, ◌∙◌, ap, subst}
+use Rattle.std.proofs.Common.{◌≡◌, ◌<◌, true, Option, None, Some, [], not, length, get_or, refl, ◌∙◌, ap, subst}
 use Rattle.std.specs.Prelude.{◌&&◌}
 use Rattle.fuxi_terms.proofs.Booleans.{and_false}
 use Rattle.fuxi_terms.proofs.Lists.{all_at}

@@ -1,4 +1,4 @@
-use Rattle.std.proofs.Common.{◌≡◌, ℕ, ◌-◌, true, nat_lt, Some, [], ◌∷◌, sym, ◌∙◌, ap, subst, arith}
+use Rattle.std.proofs.Common.{◌≡◌, ◌-◌, true, nat_lt, Some, [], ◌∷◌, sym, ◌∙◌, ap, subst, arith}
 use Rattle.std.proofs.lemmas.Bool.Decides.{nat_tests}
 use Rattle.fuxi_terms.specs.Cluster.{UnitRecord}
 use Rattle.fuxi_terms.specs.Jobs.{priority_of}

@@ -1,43 +1,80 @@
-use Rattle.std.proofs.Common.{ℕ, Bool, nat_lt, sym, ◌∙◌, ap, subst, arith}
-use Rattle.std.specs.Prelude.{◌&&◌}
+use Rattle.std.proofs.Common.{◌≡◌, ℕ, ◌+◌, ◌<◌, Bool, true, false, not, nat_eq, nat_lt, List, [], length, get_or, refl, sym, ◌∙◌, ap, subst, arith}
+use Rattle.std.specs.Prelude.{◌||◌}
+use Rattle.std.proofs.lemmas.Bool.Decides.{nat_tests}
 use Rattle.fuxi_terms.specs.Keys.{Pair}
+use Rattle.fuxi_terms.proofs.Alls.{all_filter}
+use Rattle.fuxi_terms.proofs.Booleans.{both_true, number_is, or_false}
 use Rattle.written_roles.specs.Masters.{out_of}
-use Rattle.written_roles.specs.Placing.{has_pair}
 use Rattle.place_pass.specs.Best.{AreAdmitted}
+use Rattle.place_pass.specs.Bounds.{IsRising, turn_at}
 use Rattle.place_pass.specs.Cells.{asks_in}
-use Rattle.place_pass.specs.WaitingLines.{LineRecord}
-use Rattle.place_pass.proofs.PlacerTreesLemmas.{holds_same}
-use Rattle.place_pass.proofs.StillLemmas.{all_kept, filter_all}
+use Rattle.place_pass.proofs.KeptLemmas.{rising_filter}
+use Rattle.place_pass.proofs.NumberedLemmas.{app_small}
+use Rattle.place_pass.proofs.SightsLemmas.{place_of}
+use Rattle.place_pass.proofs.StillLemmas.{filter_all, filter_alike, left_then}
 use Rattle.place_pass.proofs.waiting.leave.Goals as goal
 
-pub returns-then-not-any_leaves-clause-pairs : goal.returns-then-not-any_leaves-clause-pairs
-returns-then-not-any_leaves-clause-pairs c =
-    sym (filter_all (λ p. nat_lt 0 (out_of (asks_in c.args.wishes.now.cells) c.args.table.now.entries p.0 p.1)) c.args.line.now.pairs (λ p has. c.any_leaves.ensures c.if-not-any_leaves.true p.0 p.1 has))
+pub loop-number-init : goal.loop-number-init
+loop-number-init c =
+    let w : Pair → Bool = λ p. nat_lt 0 (out_of (asks_in c.args.wishes.now.cells) c.args.table.now.entries p.0 p.1) in
+    record {
+      pairs = sym (filter_all (λ p. w p || not (nat_lt p.0 0)) c.args.line.now.pairs (λ p _. grind (arith, nat_tests)));
+      room = refl;
+      holds = c.requires.holds;
+      stands = λ all. all;
+    }
 
-pub returns-then-not-any_leaves-clause-holds : goal.returns-then-not-any_leaves-clause-holds
-returns-then-not-any_leaves-clause-holds c =
-    let w = c.args.wishes.now in
-    let line = c.args.line.now.pairs in
-    let waits : Pair → Bool = λ p. nat_lt 0 (out_of (asks_in w.cells) c.args.table.now.entries p.0 p.1) in
-    holds_same w.cluster w.cells (λ p. has_pair p line) (λ p. has_pair p line && waits p) c.args.turn_of.now.items c.args.tree.now
-    (λ a u. all_kept (has_pair (a, u) line) (waits (a, u)) (c.any_leaves.ensures c.if-not-any_leaves.true a u)) c.requires.holds
+-- of a calm job nobody of the line leaves
+pub loop-number-preserved-then-is_calm : goal.loop-number-preserved-then-is_calm
+loop-number-preserved-then-is_calm c =
+    let old = c.args.line.now.pairs in
+    let n = c.loop-number.number in
+    let w : Pair → Bool = λ p. nat_lt 0 (out_of (asks_in c.args.wishes.now.cells) c.args.table.now.entries p.0 p.1) in
+    let calm = sym c.is_calm.ensures ∙ c.if-is_calm.true in
+    record {
+      pairs = c.loop-number.invariant.pairs ∙ filter_alike (λ p. w p || not (nat_lt p.0 n)) (λ p. w p || not (nat_lt p.0 (n + 1))) old (λ p has.
+          elim (nat_eq p.0 n) as (λ t. nat_eq p.0 n ≡ t → (w p || not (nat_lt p.0 n)) ≡ (w p || not (nat_lt p.0 (n + 1)))) [
+            | true ↦ λ t.
+                let some : w p ≡ true = (both_true _ _ (sym (c.requires.still.still p.0 p.1 (subst (λ x. get_or c.args.calm.now.items x false ≡ true) (sym (number_is p.0 n t)) calm)) ∙ has)).1 in
+                ap (λ b. b || not (nat_lt p.0 n)) some ∙ ap (λ b. b || not (nat_lt p.0 (n + 1))) (sym some)
+            | false ↦ λ f. ap (λ b. w p || not b) (grind (arith, nat_tests, f))
+          ] refl);
+      room = c.loop-number.invariant.room;
+      holds = c.loop-number.invariant.holds;
+      stands = c.loop-number.invariant.stands;
+    }
+
+pub leave_units-requires-clause-admitted : goal.leave_units-requires-clause-admitted
+leave_units-requires-clause-admitted c =
+    subst (AreAdmitted c.args.wishes.now.cells) (sym c.loop-number.invariant.pairs) (all_filter (λ (p : Pair). p.1 < length (get_or c.args.wishes.now.cells p.0 [])) _ c.args.line.now.pairs c.requires.admitted)
+
+pub leave_units-requires-clause-rises : goal.leave_units-requires-clause-rises
+leave_units-requires-clause-rises c =
+    let f : Pair → ℕ = λ p. turn_at c.args.turn_of.now.items p.0 p.1 in
+    subst (λ (l : List Pair). IsRising f l) (sym c.loop-number.invariant.pairs) (rising_filter f _ c.args.line.now.pairs c.requires.rises)
+
+pub loop-number-preserved : goal.loop-number-preserved
+loop-number-preserved c =
+    let n = c.loop-number.number in
+    let w : Pair → Bool = λ p. nat_lt 0 (out_of (asks_in c.args.wishes.now.cells) c.args.table.now.entries p.0 p.1) in
+    record {
+      pairs = c.leave_units.ensures.pairs ∙ left_then w (λ p. nat_lt p.0 n) (λ p. nat_eq p.0 n) (λ p. nat_lt p.0 (n + 1)) c.args.line.now.pairs c.loop-number.line.pairs c.loop-number.invariant.pairs (λ p. grind (arith, nat_tests));
+      room = c.leave_units.ensures.room ∙ c.loop-number.invariant.room;
+      holds = c.leave_units.ensures.holds;
+      stands = λ all. c.leave_units.ensures.stands (c.loop-number.invariant.stands all);
+    }
 
 pub returns-clause-pairs : goal.returns-clause-pairs
-returns-clause-pairs c = ap (λ (x : LineRecord). x.pairs) c.swap.ensures.x_after ∙ c.keep.ensures.pairs
+returns-clause-pairs c =
+    let old = c.args.line.now.pairs in
+    let end = c.loop-number-test.false in
+    let w : Pair → Bool = λ p. nat_lt 0 (out_of (asks_in c.args.wishes.now.cells) c.args.table.now.entries p.0 p.1) in
+    c.loop-number.invariant.pairs ∙ filter_alike (λ p. w p || not (nat_lt p.0 c.loop-number.number)) w old (λ p has.
+    let place = place_of p old has in
+    let small = app_small c.args.wishes.now.cells old place.place p c.requires.admitted place.at c.cluster-wishes.ensures.sound.places in
+    let b : nat_lt p.0 c.loop-number.number ≡ true = grind (arith, nat_tests, small, end) in
+    ap (λ x. w p || not x) b ∙ or_false (w p))
 
 pub returns-clause-admitted : goal.returns-clause-admitted
-returns-clause-admitted c = subst (AreAdmitted c.args.wishes.now.cells) (sym (ap (λ (x : LineRecord). x.pairs) c.swap.ensures.x_after)) c.keep.ensures.admitted
-
-pub returns-clause-room : goal.returns-clause-room
-returns-clause-room c =
-    let x = ap (λ (l : LineRecord). l.room) c.swap.ensures.x_after in
-    let other = c.requires.other_room in
-    let r1 = c.clear.ensures.room in
-    let r2 = c.keep.ensures.room in
-    omega (arith, x, other, r1, r2)
-
-pub returns-clause-other_room : goal.returns-clause-other_room
-returns-clause-other_room c =
-    let y = ap (λ (l : LineRecord). l.room) c.swap.ensures.y_after in
-    let room = c.requires.room in
-    omega (arith, y, room)
+returns-clause-admitted c =
+    subst (AreAdmitted c.args.wishes.now.cells) (sym c.loop-number.invariant.pairs) (all_filter (λ (p : Pair). p.1 < length (get_or c.args.wishes.now.cells p.0 [])) _ c.args.line.now.pairs c.requires.admitted)

@@ -1,4 +1,4 @@
-use Rattle.std.proofs.Common.{◌≡◌, ℕ, List, ◌++◌, false, not, filter, set, take, drop, Some, slice_get, sym, ◌∙◌, ap, subst, arith, add-one}
+use Rattle.std.proofs.Common.{◌≡◌, List, ◌++◌, false, not, filter, set, take, drop, Some, slice_get, sym, ◌∙◌, ap, subst, arith, add-one}
 use Rattle.fuxi_terms.specs.Keys.{Pair}
 use Rattle.place_pass.specs.WaitingLines.{LineRecord, IsLine, same_pair}
 use Rattle.place_pass.proofs.FlagsTellWhoWaits.{all_stay, line_left, others_at, place_inside}

@@ -43,13 +43,11 @@ invariant_of-self-2 c =
     let n = c.units.ensures.number in
     let k = c.self.invariant.counted in
     let room = c.in_ok-reserve.ensures.ok in
-    let other = c.in_ok-reserve-2.ensures.ok in
-    subst (λ (x : WishesRecord). IsPlacer x c.reserve.new.self c.reserve-2.new.self (c.self.inside.units + c.units.result) (length c.self.inside.marks) c.self.inside.turn_of.items (length c.self.inside.held.items) c.admit.new.self (length c.stir.new.calm.items)) (sym c.add_job.ensures) (record {
+    subst (λ (x : WishesRecord). IsPlacer x c.reserve.new.self (c.self.inside.units + c.units.result) (length c.self.inside.marks) c.self.inside.turn_of.items (length c.self.inside.held.items) c.admit.new.self (length c.stir.new.calm.items)) (sym c.add_job.ensures) (record {
       admitted = subst (AreAdmitted (set w.cells j.number xs)) (sym c.in_ok-reserve.ensures.pairs) (admitted_more w.cells c.self.inside.line.pairs j.number xs lt (omega (arith, none)) c.self.invariant.admitted);
       places = length-set w.cells j.number xs ∙ places;
       counted = omega (arith, more, long, n, k);
       room = omega (arith, more, long, n, k, room);
-      other_room = omega (arith, more, long, n, k, other);
       marked = c.self.invariant.marked;
       turn_places = c.self.invariant.turn_places;
       held_places = c.self.invariant.held_places;

@@ -7,7 +7,6 @@ use Rattle.written_roles.specs.Placing.{has_pair}
 use Rattle.place_pass.specs.Best.{AreAdmitted}
 use Rattle.place_pass.specs.Bounds.{IsRising, mark_at, turn_at, Rises, after_taking, is_nearer_in}
 use Rattle.place_pass.specs.Cells.{job_at, asks_in}
-use Rattle.place_pass.specs.PlacerTrees.{HoldsLine, AllStand}
 use Rattle.place_pass.specs.Placers.{PlacerRecord, IsKept, IsLevelWith, IsUpToDate, units_seen, board_over}
 use Rattle.place_pass.proofs.CellsLemmas.{placed}
 use Rattle.place_pass.proofs.CellsMatchTable.{group_is}
@@ -33,22 +32,21 @@ invariant_of-self c =
     let line = c.self.inside.line.pairs in
     let turns = c.self.inside.turn_of.items in
     let out = nat_lt 0 (out_of (asks_in w.cells) c.args.table.now.entries c.args.app.0 c.args.unit.0) in
-    let is = c.leave_served.ensures.pairs in
+    let is = c.leave_unit.ensures.pairs in
     let room = c.self.invariant.room in
-    let same = c.leave_served.ensures.room in
+    let same = c.leave_unit.ensures.room in
     record {
       admitted = subst (AreAdmitted w.cells) (sym is) (told_admitted line out c.args.app.0 c.args.unit.0 w.cells c.self.invariant.admitted);
       places = c.self.invariant.places;
       counted = c.self.invariant.counted;
       room = omega (arith, room, same);
-      other_room = c.self.invariant.other_room;
       marked = c.tell.ensures.long ∙ c.self.invariant.marked;
       turn_places = c.self.invariant.turn_places;
       held_places = length-set c.self.inside.held.items c.slot-place.result c.held.result ∙ c.self.invariant.held_places;
       calm_places = c.stir.ensures.long ∙ c.self.invariant.calm_places;
       rises = subst (λ (l : List Pair). IsRising (λ (p : Pair). turn_at turns p.0 p.1) l) (sym is)
           (rising (λ (p : Pair). turn_at turns p.0 p.1) _ (told_rises line out c.args.app.0 c.args.unit.0 (λ (p : Pair). turn_at turns p.0 p.1) (rising_all (λ (p : Pair). turn_at turns p.0 p.1) line c.self.invariant.rises)));
-      holds = subst (λ (l : List Pair). HoldsLine w.cluster w.cells l turns c.tell_spot.new.tree) (sym is) c.tell_spot.ensures.holds;
+      holds = c.tell_spot.ensures.holds;
     }
 
 -- a mark changes as after a taking, or not at all
@@ -68,7 +66,7 @@ returns-clause-level c before l is =
     let line = c.self.inside.line.pairs in
     let t = c.args.table.now in
     let out = nat_lt 0 (out_of (asks_in w.cells) t.entries c.args.app.0 c.args.unit.0) in
-    let line_is = c.leave_served.ensures.pairs in
+    let line_is = c.leave_unit.ensures.pairs in
     let old = subst (λ (p : PlacerRecord). IsLevelWith p before) (sym c.self.view_is) l in
     let here : c.args.unit.0 < length (get_or w.cells c.args.app.0 []) = subst (λ (p : PlacerRecord). c.args.unit.0 < units_seen p.seen c.args.app.0) (sym c.self.view_is) c.requires.here in
     let small = placed w.cluster w.cells w.opened c.cluster-wishes.ensures.sound c.args.app.0 c.args.unit.0 here in
@@ -85,10 +83,10 @@ returns-clause-level c before l is =
       idle = λ e. cc;
       quiet = λ e. cc;
       clear = λ e f. cc;
-      still = still_told c.self.inside.calm.items c.stir.new.calm.items c.args.app.0 c.stir.ensures.stirred w.cells line c.leave_served.new.line.pairs before t c.args.unit.0 c.args.machine.0 is (λ b v f. ap (has_pair (b, v)) line_is ∙ told_others line out c.args.app.0 c.args.unit.0 b v f) old.still;
-      stands = subst (λ (l : List Pair). AllStand w.cluster w.cells t.entries l c.tell_spot.new.tree) (sym line_is) (c.tell_spot.ensures.stands before is old.stands);
-      kept = subst (λ (hs : List ℕ). IsKept w.cells w.opened c.leave_served.new.line.pairs c.self.inside.turns (record { marks = c.tell.new.marks; turn_of = c.self.inside.turn_of.items; held = hs }) t) (λ i. set c.self.inside.held.items (sym c.slot-place.ensures i) (sym c.held.ensures i))
-          (kept_told w.cells w.opened line c.leave_served.new.line.pairs c.self.inside.turns (length w.cluster.machines) (record { marks = c.self.inside.marks; turn_of = c.self.inside.turn_of.items; held = c.self.inside.held.items }) c.tell.new.marks
+      still = still_told c.self.inside.calm.items c.stir.new.calm.items c.args.app.0 c.stir.ensures.stirred w.cells line c.leave_unit.new.line.pairs before t c.args.unit.0 c.args.machine.0 is (λ b v f. ap (has_pair (b, v)) line_is ∙ told_others line out c.args.app.0 c.args.unit.0 b v f) old.still;
+      stands = c.tell_spot.ensures.stands before is (c.leave_unit.ensures.stands before.entries old.stands);
+      kept = subst (λ (hs : List ℕ). IsKept w.cells w.opened c.leave_unit.new.line.pairs c.self.inside.turns (record { marks = c.tell.new.marks; turn_of = c.self.inside.turn_of.items; held = hs }) t) (λ i. set c.self.inside.held.items (sym c.slot-place.ensures i) (sym c.held.ensures i))
+          (kept_told w.cells w.opened line c.leave_unit.new.line.pairs c.self.inside.turns (length w.cluster.machines) (record { marks = c.self.inside.marks; turn_of = c.self.inside.turn_of.items; held = c.self.inside.held.items }) c.tell.new.marks
           (λ p has. told_was line out c.args.app.0 c.args.unit.0 p (ap (has_pair p) (sym line_is) ∙ has))
           (subst (Rises (λ (p : Pair). turn_at c.self.inside.turn_of.items p.0 p.1)) (sym line_is) (told_rises line out c.args.app.0 c.args.unit.0 (λ (p : Pair). turn_at c.self.inside.turn_of.items p.0 p.1) (rising_all (λ (p : Pair). turn_at c.self.inside.turn_of.items p.0 p.1) line old.kept.rises)))
           (open_there w.opened (length w.cluster.machines) c.cluster-wishes.ensures.sound.opened) before t c.args.app.0 c.args.unit.0 c.args.machine.0 is
@@ -100,4 +98,4 @@ pub returns-clause-up : goal.returns-clause-up
 returns-clause-up c before up is more b v =
     let w = c.self.inside.wishes in
     let old = subst (λ (p : PlacerRecord). IsUpToDate p.seen before) (sym c.self.view_is) up in
-    ap (has_pair (b, v)) c.leave_served.ensures.pairs ∙ told_up (asks_in w.cells) before c.args.table.now c.args.app.0 c.args.unit.0 c.args.machine.0 is more c.self.inside.line.pairs old b v
+    ap (has_pair (b, v)) c.leave_unit.ensures.pairs ∙ told_up (asks_in w.cells) before c.args.table.now c.args.app.0 c.args.unit.0 c.args.machine.0 is more c.self.inside.line.pairs old b v

@@ -2,7 +2,7 @@ use Rattle.std.proofs.Common.{◌≡◌, ℕ, ◌+◌, ◌-◌, Bool, true, not,
 use Rattle.std.specs.Prelude.{◌||◌}
 use Rattle.std.proofs.lemmas.List.{length-append}
 use Rattle.place_pass.specs.Bounds.{key_of, mark_at}
-use Rattle.place_pass.proofs.LinedLemmas.{IsLinedUp, lined_is, lined_kept, front_inside, front_holds, front_stands}
+use Rattle.place_pass.proofs.LinedLemmas.{IsLinedUp, lined_is, lined_kept, front_is, front_inside, front_holds}
 use Rattle.std.proofs.lemmas.Bool.Decides.{nat_tests}
 use Rattle.fuxi_terms.proofs.Booleans.{and_true, both_true}
 use Rattle.place_pass.proofs.SearchCountsLemmas.{same_stays, stays_tight}
@@ -16,6 +16,7 @@ use Rattle.written_roles.specs.Placing.{has_pair, lined, waiting_in}
 use Rattle.grant_table.specs.GrantTables.{as_known}
 use Rattle.place_pass.specs.Cells.{asks_in}
 use Rattle.place_pass.specs.WaitingLines.{same_pair}
+use Rattle.place_pass.specs.PlacerTrees.{AllStand}
 use Rattle.place_pass.specs.Placers.{PlacerRecord, KeptRecord, IsKept, IsStill, SeenRecord, IsLevelWith, asks_seen, waiting_with}
 use Rattle.place_pass.proofs.WaitingLinesLemmas.{any_append}
 use Rattle.place_pass.proofs.StillLemmas.{still_left, waiting_waits}
@@ -34,6 +35,9 @@ leave-requires-clause-still c = (subst (λ (p : PlacerRecord). IsLevelWith p c.a
 pub join-requires-clause-level : goal.join-requires-clause-level
 unfolding IsLevelWith
 join-requires-clause-level c = (subst (λ (p : PlacerRecord). IsLevelWith p c.args.table.now) (sym c.self.view_is) c.requires.level).level
+
+pub join-requires-clause-room : goal.join-requires-clause-room
+join-requires-clause-room c = let room = c.self.invariant.room in let same = c.leave.ensures.room in omega (arith, room, same)
 
 pub join-requires-clause-still : goal.join-requires-clause-still
 unfolding IsLevelWith
@@ -76,7 +80,7 @@ unfolding IsLevelWith
 enter_line-requires-clause-stands c =
     let old = subst (λ (p : PlacerRecord). IsLevelWith p c.args.table.now) (sym c.self.view_is) c.requires.level in
     let w = c.self.inside.wishes in
-    front_stands (lined_up c) w.cluster w.cells c.args.table.now.entries c.self.inside.tree c.leave.new.tree (c.leave.ensures.holds.racks ∙ sym c.self.invariant.holds.racks) (λ a u lu some. c.leave.ensures.others a u lu some) old.stands
+    subst (λ (l : List Pair). AllStand w.cluster w.cells c.args.table.now.entries l c.leave.new.tree) (sym (front_is (lined_up c))) (c.leave.ensures.stands old.stands)
 
 -- and when it was told
 lined_then : (c : goal.After-self-2-1) → IsLinedUp c.self.inside.line.pairs c.leave.new.line.pairs (waiting_in (map (λ (j : JobRecord). j.number) c.args.table.now.jobs) (unit_count (as_known c.args.table.now.jobs)) (asks_in c.self.inside.wishes.cells) c.args.table.now.entries) c.join.new.line.pairs c.len-stayed.result
@@ -90,14 +94,14 @@ pub invariant_of-self : goal.invariant_of-self
 unfolding IsLevelWith
 invariant_of-self c =
     let old = subst (λ (p : PlacerRecord). IsLevelWith p c.args.table.now) (sym c.self.view_is) c.requires.level in
-    let room = c.leave.ensures.room in
+    let room = c.self.invariant.room in
+    let same = c.leave.ensures.room in
     let more = c.join.ensures.room in
     record {
       admitted = c.join.ensures.admitted;
       places = c.self.invariant.places;
       counted = c.self.invariant.counted;
-      room = omega (arith, room, more);
-      other_room = c.leave.ensures.other_room;
+      room = omega (arith, room, same, more);
       marked = c.self.invariant.marked;
       turn_places = c.number_from.ensures.places;
       held_places = c.self.invariant.held_places;

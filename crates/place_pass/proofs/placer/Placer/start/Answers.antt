@@ -65,7 +65,6 @@ invariant_of-result c =
       places = ap (λ (w : WishesRecord). length w.cells) c.in_ok-wishes.ensures ∙ length-replicate {A = List Cell} 256 [];
       counted = sym none;
       room = omega (arith, none);
-      other_room = omega (arith, none);
       marked = ap length c.in_ok-marks.ensures ∙ length-replicate {A = MarkRecord} c.machines.result (reset_mark 0) ∙ c.machines.ensures.number ∙ ap (λ (w : WishesRecord). length w.cluster.machines) (sym c.in_ok-wishes.ensures);
       turn_places = ap length (c.in_ok-turn_of.ensures.items_if_clones_equal (λ y e. search rules)) ∙ length-replicate {A = ℕ} 2048 0;
       held_places = ap length (c.in_ok-held.ensures.items_if_clones_equal (λ y e. search rules)) ∙ length-replicate {A = ℕ} 2048 0;

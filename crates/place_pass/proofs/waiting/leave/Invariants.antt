@@ -1,0 +1,14 @@
+use Rattle.std.proofs.Common.{◌≡◌, not, nat_lt, filter}
+use Rattle.std.specs.Prelude.{◌||◌}
+use Rattle.written_roles.specs.Masters.{out_of}
+use Rattle.place_pass.specs.Cells.{asks_in}
+use Rattle.place_pass.specs.PlacerTrees.{HoldsLine, AllStand}
+use Rattle.place_pass.proofs.waiting.leave.Given as goal
+
+abbrev pub invariant-loop-number : goal.invariant-loop-number
+invariant-loop-number l = record {
+  pairs : l.line.pairs ≡ filter (λ p. nat_lt 0 (out_of (asks_in l.wishes.cells) l.table.entries p.0 p.1) || not (nat_lt p.0 l.number)) l.initial.line.pairs;
+  room : l.line.room ≡ l.initial.line.room;
+  holds : HoldsLine l.wishes.cluster l.wishes.cells l.line.pairs l.turn_of.items l.tree;
+  stands : AllStand l.wishes.cluster l.wishes.cells l.table.entries l.initial.line.pairs l.initial.tree → AllStand l.wishes.cluster l.wishes.cells l.table.entries l.line.pairs l.tree;
+}
