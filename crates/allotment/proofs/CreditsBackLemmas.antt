@@ -1,6 +1,7 @@
 -- What is given back is taken, entry by entry.
 use Rattle.std.proofs.Common.{◌≡◌, ℕ, ◌+◌, ◌-◌, ◌<◌, min, Bool, true, false, cond, nat_eq, nat_lt, List, [], ◌∷◌, ◌++◌, length, filter, take, Some, slice_get, refl, sym, ◌∙◌, ap, subst, arith}
 use Rattle.std.specs.Prelude.{◌&&◌, ◌||◌}
+use Rattle.std.specs.FinMap.Entries.{where_key}
 use Rattle.std.proofs.lemmas.Bool.Decides.{nat_tests}
 use Rattle.std.proofs.lemmas.List.Elements.{filter-append}
 use Rattle.fuxi_terms.specs.Cluster.{ClusterRecord, has_rack, has_machine}
@@ -8,7 +9,7 @@ use Rattle.fuxi_terms.specs.declared.Key.{Key}
 use Rattle.fuxi_terms.specs.Counts.{count, set_count}
 use Rattle.fuxi_terms.specs.Jobs.{unit_count}
 use Rattle.fuxi_terms.specs.Keys.{key_cmp, spot_cmp}
-use Rattle.fuxi_terms.specs.TallyKeys.{credited_key}
+use Rattle.fuxi_terms.specs.TallyKeys.{credited_key, is_back}
 use Rattle.fuxi_terms.specs.Tables.{spot, held_on, Table}
 use Rattle.fuxi_terms.proofs.Booleans.{and_true, both_true, number_is}
 use Rattle.fuxi_terms.proofs.Lists.{take_last}
@@ -22,9 +23,6 @@ use Rattle.allotment.proofs.ClearsLemmas.{touched_again, untouched}
 credit_behind : (a : ℕ) (cs es fs : List (Key × ℕ)) (t : Table) → credit a cs (es ++ fs) t ≡ credit a cs fs (credit a cs es t)
 credit_behind a cs [] fs t = refl
 credit_behind a cs (e ∷ es) fs t = credit_behind a cs es fs _
-
-pub credits_none : (a : ℕ) (g : List (Key × ℕ)) (x : AllotmentRecord) → AllWait x → CreditsBack a [] g x x
-credits_none a g x w = record { stands = λ c M cs h agree. h; waits = w; touches = untouched x; table = refl }
 
 pub credits_more : (a : ℕ) (es g : List (Key × ℕ)) (i : ℕ) (e : Key × ℕ) (x y z : AllotmentRecord) → slice_get es i ≡ Some e → CreditsBack a (take i es) g x y → CreditsBack a (e ∷ []) g y z → CreditsBack a (take (i + 1) es) g x z
 credits_more a es g i e x y z at before last = record {
@@ -68,8 +66,8 @@ module _ (a : ℕ) (g : List (Key × ℕ)) (k : Key) (n taken : ℕ) (x y : Allo
     table = table ∙ ap (λ es. record x.table { entries = es }) (sym (ap (λ (t : TableRecord). t.entries) table));
   }
 
--- one entry that is no number given back, or of a unit or a machine that is not there
-pub credits_passed : (a : ℕ) (g : List (Key × ℕ)) (k : Key) (n : ℕ) (x : AllotmentRecord) → AllWait x → (nat_eq k.what 5 && (nat_lt k.unit (unit_count (as_known x.table.jobs) a) && nat_lt k.number (length x.table.cluster.machines))) ≡ false → CreditsBack a ((k, n) ∷ []) g x x
+-- one entry, of a unit or a machine that is not there
+pub credits_passed : (a : ℕ) (g : List (Key × ℕ)) (k : Key) (n : ℕ) (x : AllotmentRecord) → AllWait x → (nat_lt k.unit (unit_count (as_known x.table.jobs) a) && nat_lt k.number (length x.table.cluster.machines)) ≡ false → CreditsBack a ((k, n) ∷ []) g x x
 credits_passed a g k n x w out = record {
   stands = λ c M cs h agree. subst (λ t. Allots x c (record M { table = t })) (sym (same c M cs h)) h;
   waits = w;
@@ -95,8 +93,35 @@ credits_passed a g k n x w out = record {
                 let last : has_machine c k.number ≡ true = subst (λ w. (nat_eq w 1 || cond (nat_eq w 3) (has_rack c k.number) (has_machine c k.number)) ≡ true) (number_is k.what 5 e) both.1 in
                 let u : nat_lt k.unit (unit_count (as_known x.table.jobs) a) ≡ true = grind (arith, nat_tests, first, units) in
                 let m : nat_lt k.number (length x.table.cluster.machines) ≡ true = grind (arith, nat_tests, last, machines) in
-                sym (and_true (nat_eq k.what 5) _ e (and_true _ _ u m)) ∙ out
+                sym (and_true _ _ u m) ∙ out
             | false ↦ λ _. refl
           ] refl)
       | false ↦ λ _. refl
     ] refl
+
+-- what gives nothing back plays no part, nor do grants that say the same of what is credited
+pub credits_alone : (a : ℕ) (es shown given : List (Key × ℕ)) (x y : AllotmentRecord) → ((u m : ℕ) → count key_cmp shown (credited_key u m) ≡ count key_cmp given (credited_key u m)) → CreditsBack a (where_key key_cmp is_back es) shown x y → CreditsBack a es given x y
+credits_alone a es shown given x y same h = record {
+  stands = λ c M cs stands agree. subst (λ t. Allots y c (record M { table = t })) (alone c (unit_count M.jobs a) cs es M.table) (h.stands c M cs stands (λ u m. agree u m ∙ sym (same u m)));
+  waits = h.waits;
+  touches = h.touches;
+  table = h.table;
+}
+  where
+    alone : (c : ClusterRecord) (units : ℕ) (cs es : List (Key × ℕ)) (t : Table) → credit a cs (filter (λ f. is_there c units f.0) (where_key key_cmp is_back es)) t ≡ credit a cs (filter (λ f. is_there c units f.0) es) t
+    alone c units cs [] t = refl
+    alone c units cs (e ∷ es) t =
+        let s = spot a e.0.unit e.0.number in
+        let lost = set_count spot_cmp t s (count spot_cmp t s - min (e.1 - count key_cmp cs (credited_key e.0.unit e.0.number)) (count spot_cmp t s)) in
+        let p : Key × ℕ → Bool = λ f. is_there c units f.0 in
+        let backs = where_key key_cmp is_back es in
+        elim (is_there c units e.0) as (λ q. is_there c units e.0 ≡ q → credit a cs (filter p (cond (is_back e.0) (e ∷ backs) backs)) t ≡ credit a cs (cond q (e ∷ filter p es) (filter p es)) t) [
+          | true ↦ λ q. elim (is_back e.0) as (λ b. is_back e.0 ≡ b → credit a cs (filter p (cond b (e ∷ backs) backs)) t ≡ credit a cs (filter p es) (cond b lost t)) [
+            | true ↦ λ b. ap (λ r. credit a cs (cond r (e ∷ filter p backs) (filter p backs)) t) q ∙ ap (λ r. credit a cs (filter p backs) (cond r lost t)) b ∙ alone c units cs es lost
+            | false ↦ λ b. alone c units cs es t
+          ] refl
+          | false ↦ λ q. elim (is_back e.0) as (λ b. credit a cs (filter p (cond b (e ∷ backs) backs)) t ≡ credit a cs (filter p es) t) [
+            | true ↦ ap (λ r. credit a cs (cond r (e ∷ filter p backs) (filter p backs)) t) q ∙ alone c units cs es t
+            | false ↦ alone c units cs es t
+          ]
+        ] refl

@@ -8,6 +8,9 @@ mod PlanBoards
 mod Victims
 mod AddsLemmas
 mod CreditsBackLemmas
+mod IsPastLemmas
+mod LastKinds
+mod NewlyCreditedLemmas
 mod AddsRowLemmas
 pub mod OnlyTakesLemmas
 mod Boards

@@ -1,11 +1,11 @@
 -- What a table of grants with its placer stands for, and which spots changed.
-use Rattle.std.specs.Prelude.{◌≡◌, ℕ, ◌<◌, ◌≤◌, Bool, true, false, cond, List, [], ◌∷◌, ◌++◌, map}
-use Rattle.fuxi_terms.specs.Cluster.{ClusterRecord}
+use Rattle.std.specs.Prelude.{◌≡◌, ℕ, ◌<◌, ◌≤◌, Bool, true, false, cond, nat_lt, ◌&&◌, List, [], ◌∷◌, ◌++◌, map, filter}
+use Rattle.fuxi_terms.specs.Cluster.{ClusterRecord, has_machine}
 use Rattle.fuxi_terms.specs.Counts.{count}
 use Rattle.fuxi_terms.specs.Keys.{RowKey, Spot, spot_cmp, key_cmp}
 use Rattle.fuxi_terms.specs.Tables.{spot, Table}
 use Rattle.std.specs.FinMap.Entries.{put}
-use Rattle.fuxi_terms.specs.TallyKeys.{credited_key}
+use Rattle.fuxi_terms.specs.TallyKeys.{credited_key, is_back}
 use Rattle.fuxi_terms.specs.declared.Key.{Key}
 use Rattle.written_net.specs.Ledgers.{tally_ledger}
 use Rattle.written_roles.specs.MasterSteps.{counted, credit}
@@ -88,6 +88,13 @@ pub record CreditsBack (a : ℕ) (es given : List (Key × ℕ)) (x y : Allotment
   pub waits : AllWait y
   pub touches : Touches x y
   pub table : y.table ≡ record x.table { entries = y.table.entries }
+
+-- what a demand gives back that is not credited yet, of units and machines that are there
+abbrev pub is_new_back : ClusterRecord → ℕ → List (Key × ℕ) → Key × ℕ → Bool
+is_new_back c units given e = is_back e.0 && (nat_lt e.0.unit units && (has_machine c e.0.number && nat_lt (count key_cmp given (credited_key e.0.unit e.0.number)) e.1))
+
+abbrev pub newly_credited : ClusterRecord → ℕ → List (Key × ℕ) → List (Key × ℕ) → List (Key × ℕ)
+newly_credited c units given es = map (λ e. (credited_key e.0.unit e.0.number, e.1)) (filter (is_new_back c units given) es)
 
 -- the entries of a machine's row are put into the table
 abbrev pub rows_put : ℕ → List (RowKey × ℕ) → Table → Table

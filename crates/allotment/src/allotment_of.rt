@@ -1,10 +1,6 @@
 //! The table with its placer.
 
-ghost use Rattle.std.specs.Prelude.{◌≡◌};
-ghost use Rattle.fuxi_terms.specs.Counts.{count};
-ghost use Rattle.fuxi_terms.specs.Keys.{key_cmp};
-ghost use Rattle.fuxi_terms.specs.TallyKeys.{credited_key};
-
+use crate::credits::{add_new, credited_key, number_from, of_last_kind};
 use crate::settle_run::settle;
 use cluster_desc::Cluster;
 use fuxi_terms::limits::MOST_JOBS;
@@ -52,8 +48,8 @@ impl Model for Allotment {
 }
 
 impl Allotment {
-    ghost use Rattle.std.specs.Prelude.{◌∷◌, ◌≡◌, ℕ, ◌+◌, ◌*◌, ◌<◌, ◌≤◌, ◌^◌, ◌&&◌, ◌||◌, not, nat_eq, nat_lt, cond, true, false, List, [], length, map, IfOk, OnOk};
-    ghost use Rattle.fuxi_terms.specs.Cluster.{ClusterRecord, has_at};
+    ghost use Rattle.std.specs.Prelude.{◌∷◌, ◌≡◌, ℕ, ◌+◌, ◌*◌, ◌<◌, ◌≤◌, ◌^◌, ◌&&◌, ◌||◌, not, nat_eq, nat_lt, cond, true, false, T, List, [], length, map, IfOk, OnOk};
+    ghost use Rattle.fuxi_terms.specs.Cluster.{ClusterRecord, has_at, has_machine};
     ghost use Rattle.fuxi_terms.specs.Jobs.{is_known, size_at, unit_count};
     ghost use Rattle.fuxi_terms.specs.Numbers.{has_number};
     ghost use Rattle.fuxi_terms.specs.Tables.{spot, held_on, total_at, with_grant, without_grants};
@@ -68,15 +64,18 @@ impl Allotment {
     ghost use Rattle.preempt.specs.Plans.{AreTakable, CanBeMade, plan_as};
     ghost use Rattle.written_roles.specs.Preemption.{plan_of, preempted};
     ghost use Rattle.std.specs.Ordering.{nat_cmp};
-    ghost use Rattle.std.specs.FinMap.Entries.{put, where_key};
-    ghost use Rattle.fuxi_terms.specs.Keys.{spot_cmp};
+    ghost use Rattle.std.specs.FinMap.Entries.{is_sorted, put, where_key};
+    ghost use Rattle.fuxi_terms.specs.Keys.{key_cmp, spot_cmp};
+    ghost use Rattle.fuxi_terms.specs.Counts.{AreCounts, count};
+    ghost use Rattle.fuxi_terms.specs.TallyKeys.{credited_key, greatest_demand, is_back};
+    ghost use Rattle.fuxi_terms.specs.declared.Key.{Key};
     ghost use Rattle.written_net.specs.Ledgers.{tally_ledger};
     ghost use Rattle.written_roles.specs.MasterSteps.{counted};
     ghost use Rattle.std.specs.List.{AllByRecursion};
     ghost use Rattle.fuxi_terms.specs.Vectors.{at_place};
     ghost use Rattle.fuxi_terms.specs.Rows.{row_total};
     ghost use Rattle.allotment.specs.SettlingRuns.{AreTouched};
-    ghost use Rattle.allotment.specs.Allotted.{Adds, AddsRow, Allots, AllWait, Clears, CreditsBack, OnlyTakes, TakesVictims, Touches, rows_put};
+    ghost use Rattle.allotment.specs.Allotted.{Adds, AddsRow, Allots, AllWait, Clears, CreditsBack, OnlyTakes, TakesVictims, Touches, newly_credited, rows_put};
 
     /// The allotment of a cluster, with no job, no grant and no open machine. It stands for a master that knows
     /// of no job and of no machine. Where memory is refused there is no allotment.
@@ -142,24 +141,10 @@ impl Allotment {
     }
 
     /// The demand of a job that is there is now this one, of which the entries count that name one of the job's units
-    /// and a machine or rack of the cluster.
-    pub fn asked(&mut self, app: AppNo, demand: &Demand)
-        requires { 0 < unit_count (as_known self.old.table.jobs) app.0 }
-        ensures stands { (c : ClusterRecord) (M : Master) (head : ℕ) → Allots self.old c M
-            → Allots self.new c (record M { demands = put nat_cmp app.0 (counted c M.jobs app.0 (tally_ledger head demand.now.entries)) M.demands }) }
-        ensures table { self.new.table ≡ self.old.table }
-        ensures touched { self.new.touched ≡ self.old.touched }
-        ensures turns { self.new.placer.seen.turns ≡ self.old.placer.seen.turns }
-        ensures idle { AsksNoMore (asks_seen self.old.placer.seen) (asks_seen self.new.placer.seen) app.0 → self.new.placer.idle ≡ self.old.placer.idle }
-    {
-        place_pass::law::levels();
-        self.placer.asked(&self.table, app, demand);
-    }
-
-    /// The same, of a demand that asks otherwise than before only at keys that these changes name.
-    pub fn asked_at(&mut self, app: AppNo, demand: &Demand, changes: &[(Key, i64)])
+    /// and a machine or rack of the cluster. Changes that are told name the keys at which it asks otherwise than before.
+    pub fn asked(&mut self, app: AppNo, demand: &Demand, changes: Option<&[(Key, i64)]>)
         requires job { 0 < unit_count (as_known self.old.table.jobs) app.0 }
-        requires told { AsksOtherwiseAt changes.now self.old.placer.seen app.0 demand.now.entries }
+        requires told { IfSome changes (λ c. AsksOtherwiseAt c.now self.old.placer.seen app.0 demand.now.entries) }
         ensures stands { (c : ClusterRecord) (M : Master) (head : ℕ) → Allots self.old c M
             → Allots self.new c (record M { demands = put nat_cmp app.0 (counted c M.jobs app.0 (tally_ledger head demand.now.entries)) M.demands }) }
         ensures table { self.new.table ≡ self.old.table }
@@ -168,7 +153,7 @@ impl Allotment {
         ensures idle { AsksNoMore (asks_seen self.old.placer.seen) (asks_seen self.new.placer.seen) app.0 → self.new.placer.idle ≡ self.old.placer.idle }
     {
         place_pass::law::levels();
-        self.placer.asked_at(&self.table, app, demand, changes);
+        self.placer.asked(&self.table, app, demand, changes);
     }
 
     /// So many grants fewer. Where the pairs of the line have something out the line stays as it is, and where the
@@ -228,44 +213,91 @@ impl Allotment {
         Ok(())
     }
 
-    // Of what one entry of a demand gives back and is not yet credited, the table loses what it has.
+    // Whether the job has the unit that a key names, and the cluster the machine.
+    fn is_there(&self, app: AppNo, key: &Key) -> bool
+        ensures { result ≡ (nat_lt key.now.unit (unit_count (as_known self.now.table.jobs) app.0) && has_machine self.now.table.cluster key.now.number) }
+    {
+        let machines = self.table.cluster().machines();
+        (key.unit as usize) < self.table.units(app) && key.number < machines
+    }
+
+    // Of what one entry of a demand gives back and is above what is credited, the table loses what it has. Whether there is such,
+    // of a unit and a machine that are there, is told.
     fn credit_one(
         &mut self,
         app: AppNo,
         key: Key,
         back: u64,
-        given: &Grants,
-    ) -> Result<(), OutOfMemory>
-        requires { AllWait self.old }
-        ensures credits { OnOk result (CreditsBack app.0 ((key, back) ∷ []) given.now.entries self.old self.new) }
+        credited: u64,
+    ) -> Result<bool, OutOfMemory>
+        requires waits { AllWait self.old }
+        requires back { is_back key ≡ true }
+        ensures credits { OnOk result ((given : List (Key × ℕ)) → credited ≡ count key_cmp given (credited_key key.unit key.number) → CreditsBack app.0 ((key, back) ∷ []) given self.old self.new) }
         ensures takes { OnOk result (OnlyTakes self.old self.new) }
+        ensures new { IfOk result (λ new. new ≡ (nat_lt key.unit (unit_count (as_known self.old.table.jobs) app.0) && (has_machine self.old.table.cluster key.number && nat_lt credited back))) }
     {
-        let units = self.table.units(app);
-        let machines = self.table.cluster().machines();
-        if key.what != BACK || key.unit as usize >= units || key.number >= machines {
-            return Ok(());
+        if !self.is_there(app, &key) {
+            return Ok(false);
         }
         let unit = UnitNo(key.unit);
         let machine = MachineNo(key.number);
         let held = self.table.held_on(app, unit, machine);
-        let open = back.saturating_sub(credited(given, key.unit, key.number));
+        let open = back.saturating_sub(credited);
         self.take(app, unit, machine, open.min(u64::from(held)) as u32)?;
-        Ok(())
+        Ok(open > 0)
+    }
+
+    // Of what these entries give back and is not among the credited ones, the table loses what it has. What is credited now is told.
+    fn credit_run(
+        &mut self,
+        alloc: Global,
+        app: AppNo,
+        backs: &[(Key, u64)],
+        credited: &[(Key, u64)],
+    ) -> Result<Vec<(Key, u64)>, OutOfMemory>
+        requires waits { AllWait self.old }
+        requires backs { AllByRecursion (λ e. is_back e.0 ≡ true) backs.now }
+        requires rise { T (is_sorted key_cmp backs.now) }
+        requires sorted { T (is_sorted key_cmp credited.now) }
+        ensures credits { OnOk result (CreditsBack app.0 backs.now credited.now self.old self.new) }
+        ensures takes { OnOk result (OnlyTakes self.old self.new) }
+        ensures numbers { IfOk result (λ numbers. numbers.items ≡ newly_credited self.old.table.cluster (unit_count (as_known self.old.table.jobs) app.0) credited.now backs.now) }
+    {
+        let mut numbers = Vec::new(alloc);
+        let mut place = 0;
+        for index in 0..backs.len() {
+            let (key, back) = backs[index];
+            let sought = credited_key(&key);
+            let (before, next) = number_from(credited, place, &sought);
+            place = next;
+            let new = self.credit_one(app, key, back, before)?;
+            add_new(&mut numbers, new, sought, back)?;
+        }
+        Ok(numbers)
     }
 
     /// Of what a demand of a job gives back and is not yet credited, the table loses what it has. The grants that the job
-    /// was shown say what is credited. Entries count that name one of the job's units and a machine of the cluster.
-    pub fn credit(&mut self, app: AppNo, demand: &Demand, given: &Grants) -> Result<(), OutOfMemory>
+    /// was shown say what is credited. Entries count that name one of the job's units and a machine of the cluster. What is
+    /// credited now is handed back, by keys that rise.
+    pub fn credit(
+        &mut self,
+        alloc: Global,
+        app: AppNo,
+        demand: &Demand,
+        given: &Grants,
+    ) -> Result<Vec<(Key, u64)>, OutOfMemory>
         requires { AllWait self.old }
         ensures credits { OnOk result (CreditsBack app.0 demand.now.entries given.now.entries self.old self.new) }
         ensures takes { OnOk result (OnlyTakes self.old self.new) }
+        ensures numbers { IfOk result (λ numbers. numbers.items ≡ newly_credited self.old.table.cluster (unit_count (as_known self.old.table.jobs) app.0) given.now.entries demand.now.entries) }
+        ensures counts { IfOk result (λ numbers. AreCounts key_cmp greatest_demand demand.now.entries) }
     {
-        let entries = demand.entries();
-        for index in 0..entries.len() {
-            let (key, back) = entries[index];
-            self.credit_one(app, key, back, given)?;
-        }
-        Ok(())
+        let counts = demand.entries();
+        let backs = of_last_kind(counts, BACK);
+        let shown = given.entries();
+        let credited = of_last_kind(shown, CREDITED);
+        let numbers = self.credit_run(alloc, app, backs, credited)?;
+        Ok(numbers)
     }
 
     /// All grants on a machine are gone. Where the pairs of the line have something out the line stays as it is.
@@ -506,15 +538,4 @@ impl Allotment {
         place_pass::law::levels();
         &self.placer
     }
-}
-
-// What is credited of a unit on a machine.
-fn credited(given: &Grants, unit: u8, machine: u32) -> u64
-    ensures { result ≡ count key_cmp given.now.entries (credited_key unit machine) }
-{
-    given.get(&Key {
-        what: CREDITED,
-        unit,
-        number: machine,
-    })
 }

@@ -2,6 +2,7 @@
 #![tactic(auto)]
 
 mod allotment_of;
+mod credits;
 pub mod law;
 mod settle_run;
 

@@ -1,34 +1,35 @@
-use Rattle.std.proofs.Common.{◌≡◌, ◌-◌, min, ◌<◌, length, ◌∙◌, ap, subst, nat_eq, nat_lt, arith}
-use Rattle.fuxi_terms.specs.Cluster.{ClusterRecord}
+use Rattle.std.proofs.Common.{◌≡◌, ℕ, ◌-◌, min, ◌<◌, length, ◌∙◌, ap, sym, true, nat_lt, arith}
+use Rattle.std.specs.Prelude.{◌&&◌}
 use Rattle.fuxi_terms.specs.Jobs.{unit_count}
 use Rattle.fuxi_terms.specs.Tables.{held_on}
 use Rattle.grant_table.specs.GrantTables.{as_known}
 use Rattle.allotment.specs.Allotted.{AllotmentRecord}
 use Rattle.allotment.proofs.CreditsBackLemmas.{credits_passed, credits_taken}
 use Rattle.std.proofs.lemmas.Bool.Decides.{nat_tests}
-use Rattle.fuxi_terms.proofs.Booleans.{false_and, false_right}
-use Rattle.allotment.proofs.allotment_of.Allotment.credit_one.Goals.{then-key-ne-BACK-via-then-key-ne-BACK, then-key-ne-BACK-via-else-key-ne-BACK+then-key-units, then-key-ne-BACK-via-else-key-ne-BACK+else-key-units+then-key-machines}
+use Rattle.fuxi_terms.proofs.Booleans.{both_true, number_is}
 use Rattle.allotment.proofs.allotment_of.Allotment.credit_one.Goals as goal
 
-pub returns-clause-credits : goal.returns-clause-credits
-returns-clause-credits c =
-    let x = c.args.self.now in let k = c.args.key in let a = c.args.app.0 in
-    let view = c.self.view_is in
-    let held : c.held_on-held.result ≡ held_on x.table.entries a k.unit k.number = c.held_on-held.ensures ∙ ap (λ (r : AllotmentRecord). held_on r.table.entries a k.unit k.number) view in
-    let units : c.units-units.result ≡ unit_count (as_known x.table.jobs) a = c.units-units.ensures.number ∙ ap (λ (r : AllotmentRecord). unit_count (as_known r.table.jobs) a) view in
-    let machines : c.machines-machines.result ≡ length x.table.cluster.machines = c.machines-machines.ensures.number ∙ ap (λ (d : ClusterRecord). length d.machines) c.cluster.ensures.cluster ∙ ap (λ (r : AllotmentRecord). length r.table.cluster.machines) view in
-    let fewer = c.min.ensures ∙ (λ i. min (c.saturating_sub-open.ensures i) (c.from.ensures i)) ∙ (λ i. min (c.args.back - c.credited.ensures i) (held i)) in
-    let t = c.in_ok-take.ensures in
-    credits_taken a c.args.given.now.entries k c.args.back c.min.result x c.take.new.self c.if-key-ne-BACK.false (subst (λ n. k.unit < n) units c.if-key-units.false) (subst (λ n. k.number < n) machines c.if-key-machines.false) fewer t.stands t.waits t.touches t.table
+is_less : (n m : ℕ) → nat_lt n m ≡ true → n < m
+is_less n m h = grind (arith, nat_tests)
 
-pub returns-then-key-ne-BACK-clause-credits : goal.returns-then-key-ne-BACK-clause-credits
-returns-then-key-ne-BACK-clause-credits c =
+pub returns-clause-credits : goal.returns-clause-credits
+returns-clause-credits c = λ given is.
     let x = c.args.self.now in let k = c.args.key in let a = c.args.app.0 in
-    let view = c.self.view_is in
-    let units : c.units-units.result ≡ unit_count (as_known x.table.jobs) a = c.units-units.ensures.number ∙ ap (λ (r : AllotmentRecord). unit_count (as_known r.table.jobs) a) view in
-    let machines : c.machines-machines.result ≡ length x.table.cluster.machines = c.machines-machines.ensures.number ∙ ap (λ (d : ClusterRecord). length d.machines) c.cluster.ensures.cluster ∙ ap (λ (r : AllotmentRecord). length r.table.cluster.machines) view in
-    credits_passed a c.args.given.now.entries k c.args.back x c.requires (elim c.then-key-ne-BACK.branch [
-      | then-key-ne-BACK-via-then-key-ne-BACK w ↦ let t = w.if-key-ne-BACK.true in false_and (nat_eq k.what 5) _ (grind (arith, nat_tests, t))
-      | then-key-ne-BACK-via-else-key-ne-BACK+then-key-units w ↦ let t = w.if-key-units.true in false_right (nat_eq k.what 5) _ (false_and (nat_lt k.unit (unit_count (as_known x.table.jobs) a)) _ (grind (arith, nat_tests, t, units)))
-      | then-key-ne-BACK-via-else-key-ne-BACK+else-key-units+then-key-machines w ↦ let t = w.if-key-machines.true in false_right (nat_eq k.what 5) _ (false_right (nat_lt k.unit (unit_count (as_known x.table.jobs) a)) _ (grind (arith, nat_tests, t, machines)))
-    ])
+    let units = unit_count (as_known x.table.jobs) a in
+    let machines = length x.table.cluster.machines in
+    let there = both_true (nat_lt k.unit units) (nat_lt k.number machines) (sym c.is_there.ensures ∙ c.if-not-is_there.false) in
+    let held : c.held_on-held.result ≡ held_on x.table.entries a k.unit k.number = c.held_on-held.ensures ∙ ap (λ (r : AllotmentRecord). held_on r.table.entries a k.unit k.number) c.self.view_is in
+    let fewer = c.min.ensures ∙ (λ i. min (c.saturating_sub-open.ensures i) (c.from.ensures i)) ∙ (λ i. min (c.args.back - is i) (held i)) in
+    let t = c.in_ok-take.ensures in
+    credits_taken a given k c.args.back c.min.result x c.take.new.self (number_is k.what 5 c.requires.back) (is_less k.unit units there.0) (is_less k.number machines there.1) fewer t.stands t.waits t.touches t.table
+
+pub returns-clause-new : goal.returns-clause-new
+returns-clause-new c =
+    let x = c.args.self.now in let k = c.args.key in
+    let there = both_true (nat_lt k.unit (unit_count (as_known x.table.jobs) c.args.app.0)) (nat_lt k.number (length x.table.cluster.machines)) (sym c.is_there.ensures ∙ c.if-not-is_there.false) in
+    let left = c.saturating_sub-open.ensures in
+    let above : nat_lt 0 c.saturating_sub-open.result ≡ nat_lt c.args.credited c.args.back = grind (arith, nat_tests, left) in
+    above ∙ sym (λ i. there.0 i && (there.1 i && nat_lt c.args.credited c.args.back))
+
+pub returns-then-not-is_there-clause-credits : goal.returns-then-not-is_there-clause-credits
+returns-then-not-is_there-clause-credits c = λ given is. credits_passed c.args.app.0 given c.args.key c.args.back c.args.self.now c.requires.waits (sym c.is_there.ensures ∙ c.if-not-is_there.true)
