@@ -1,12 +1,13 @@
 -- What is given back is taken, entry by entry.
-use Rattle.std.proofs.Common.{◌≡◌, ℕ, ◌+◌, ◌-◌, ◌<◌, min, Bool, true, false, cond, nat_eq, nat_lt, List, [], ◌∷◌, ◌++◌, length, filter, take, Some, slice_get, refl, sym, ◌∙◌, ap, subst, arith}
+use Rattle.std.proofs.Common.{◌≡◌, ℕ, ◌+◌, ◌-◌, ◌<◌, ◌≤◌, min, Bool, true, false, cond, nat_eq, nat_lt, List, [], ◌∷◌, ◌++◌, length, filter, take, Some, slice_get, refl, sym, ◌∙◌, ap, subst, arith}
 use Rattle.std.specs.Prelude.{◌&&◌, ◌||◌}
 use Rattle.std.specs.FinMap.Entries.{where_key}
 use Rattle.std.proofs.lemmas.Bool.Decides.{nat_tests}
 use Rattle.std.proofs.lemmas.List.Elements.{filter-append}
 use Rattle.fuxi_terms.specs.Cluster.{ClusterRecord, has_rack, has_machine}
 use Rattle.fuxi_terms.specs.declared.Key.{Key}
-use Rattle.fuxi_terms.specs.Counts.{count, set_count}
+use Rattle.fuxi_terms.specs.Counts.{AreCounts, count, set_count}
+use Rattle.fuxi_terms.specs.Limits.{greatest_count}
 use Rattle.fuxi_terms.specs.Jobs.{unit_count}
 use Rattle.fuxi_terms.specs.Keys.{key_cmp, spot_cmp}
 use Rattle.fuxi_terms.specs.TallyKeys.{credited_key, is_back}
@@ -19,6 +20,7 @@ use Rattle.grant_table.specs.GrantTables.{TableRecord, as_known, without_count}
 use Rattle.allotment.specs.Allotted.{AllotmentRecord, Allots, AllWait, Touches, CreditsBack}
 use Rattle.allotment.proofs.AskedStands.{same_units}
 use Rattle.allotment.proofs.ClearsLemmas.{touched_again, untouched}
+use Rattle.allotment.proofs.OnlyTakesLemmas.{none_fewer}
 
 credit_behind : (a : ℕ) (cs es fs : List (Key × ℕ)) (t : Table) → credit a cs (es ++ fs) t ≡ credit a cs fs (credit a cs es t)
 credit_behind a cs [] fs t = refl
@@ -65,6 +67,19 @@ module _ (a : ℕ) (g : List (Key × ℕ)) (k : Key) (n taken : ℕ) (x y : Allo
     touches = touches;
     table = table ∙ ap (λ es. record x.table { entries = es }) (sym (ap (λ (t : TableRecord). t.entries) table));
   }
+
+-- one entry of which all is credited
+pub credits_level : (a : ℕ) (g : List (Key × ℕ)) (k : Key) (n : ℕ) (x : AllotmentRecord) → k.what ≡ 5 → k.unit < unit_count (as_known x.table.jobs) a → k.number < length x.table.cluster.machines → n ≤ count key_cmp g (credited_key k.unit k.number)
+    → AllWait x → AreCounts spot_cmp (λ s. greatest_count) x.table.entries → CreditsBack a ((k, n) ∷ []) g x x
+credits_level a g k n x back unit machine le w counts =
+    let s = spot a k.unit k.number in
+    let none = none_fewer x.table.entries s 0 counts refl in
+    let level : n - count key_cmp g (credited_key k.unit k.number) ≡ 0 = omega (arith, le) in
+    credits_taken a g k n 0 x x back unit machine (zero_least (held_on x.table.entries a k.unit k.number) ∙ sym (ap (λ l. min l (held_on x.table.entries a k.unit k.number)) level))
+    (λ c M h. subst (λ t. Allots x c (record M { table = t })) (sym (ap (λ t. without_count t s 0) (sym h.placing.entries) ∙ none ∙ h.placing.entries)) h) w (untouched x) (ap (λ es. record x.table { entries = es }) (sym none))
+  where
+    zero_least : (m : ℕ) → 0 ≡ min 0 m
+    zero_least m = omega arith
 
 -- one entry, of a unit or a machine that is not there
 pub credits_passed : (a : ℕ) (g : List (Key × ℕ)) (k : Key) (n : ℕ) (x : AllotmentRecord) → AllWait x → (nat_lt k.unit (unit_count (as_known x.table.jobs) a) && nat_lt k.number (length x.table.cluster.machines)) ≡ false → CreditsBack a ((k, n) ∷ []) g x x

@@ -48,17 +48,16 @@ impl Model for Allotment {
 }
 
 impl Allotment {
-    ghost use Rattle.std.specs.Prelude.{◌∷◌, ◌≡◌, ℕ, ◌+◌, ◌*◌, ◌<◌, ◌≤◌, ◌^◌, ◌&&◌, ◌||◌, not, nat_eq, nat_lt, cond, true, false, T, List, [], length, map, IfOk, OnOk};
+    ghost use Rattle.std.specs.Prelude.{◌∷◌, ◌≡◌, ℕ, ◌+◌, ◌*◌, ◌<◌, ◌≤◌, ◌^◌, ◌&&◌, ◌||◌, not, nat_eq, nat_lt, cond, true, false, T, List, [], length, map, IfOk, IfSome, OnOk};
     ghost use Rattle.fuxi_terms.specs.Cluster.{ClusterRecord, has_at, has_machine};
     ghost use Rattle.fuxi_terms.specs.Jobs.{is_known, size_at, unit_count};
     ghost use Rattle.fuxi_terms.specs.Numbers.{has_number};
-    ghost use Rattle.fuxi_terms.specs.Tables.{spot, held_on, total_at, with_grant, without_grants};
+    ghost use Rattle.fuxi_terms.specs.Tables.{spot, held_on, total_at};
     ghost use Rattle.grant_table.specs.GrantTables.{as_known, with_admitted, without_count};
     ghost use Rattle.written_roles.specs.HardState.{with_job};
-    ghost use Rattle.written_roles.specs.Masters.{Master, asked, out_of};
-    ghost use Rattle.written_roles.specs.Placing.{granted, line_after, line_up, settled};
+    ghost use Rattle.written_roles.specs.Masters.{Master, out_of};
+    ghost use Rattle.written_roles.specs.Placing.{line_up, settled};
     ghost use Rattle.place_pass.specs.Placers.{IsUpToDate, AsksNoMore, AsksOtherwiseAt, asks_seen, is_open, units_seen};
-    ghost use Rattle.std.specs.Prelude.{IfSome, Some, slice_get};
     ghost use Rattle.std.specs.Option.{option_map};
     ghost use Rattle.place_pass.specs.Best.{spot_of};
     ghost use Rattle.preempt.specs.Plans.{AreTakable, CanBeMade, plan_as};
@@ -239,12 +238,16 @@ impl Allotment {
         if !self.is_there(app, &key) {
             return Ok(false);
         }
+        let _sound = self.table.cluster();
+        if back <= credited {
+            return Ok(false);
+        }
         let unit = UnitNo(key.unit);
         let machine = MachineNo(key.number);
         let held = self.table.held_on(app, unit, machine);
-        let open = back.saturating_sub(credited);
+        let open = back - credited;
         self.take(app, unit, machine, open.min(u64::from(held)) as u32)?;
-        Ok(open > 0)
+        Ok(true)
     }
 
     // Of what these entries give back and is not among the credited ones, the table loses what it has. What is credited now is told.
