@@ -1,9 +1,9 @@
+pub mod OfNumbersLemmas
 pub mod RowSetLemmas
 pub mod GrantsSetLemmas
 pub mod ShownLemmas
 pub mod ProjectionsLemmas
 pub mod GrantEntriesLemmas
-pub mod ByMachine
 pub mod InPlaces
 pub mod RisingKeys
 pub mod ShownRows

@@ -17,7 +17,7 @@ use Rattle.fuxi_terms.specs.Tallies.{TallyRecord, empty_tally, patched_tally, st
 use Rattle.fuxi_terms.specs.declared.answers.LedgerFault.TheVariants.{Below, TooGreat}
 use Rattle.fuxi_terms.specs.TallyKeys.{reported_key, count_key, credited_key, credited_what, greatest_grant}
 use Rattle.fuxi_terms.proofs.Alls.{all_append, all_mapped, all_filter, all_passed}
-use Rattle.fuxi_terms.proofs.Booleans.{number_is, nat_itself}
+use Rattle.fuxi_terms.proofs.Booleans.{number_is}
 use Rattle.fuxi_terms.proofs.CountsLemmas.{counts-where_key, count_where}
 use Rattle.fuxi_terms.proofs.KeyOrders.{key_total, same_key}
 use Rattle.written_roles.specs.MasterSteps.{count_entries}
@@ -26,9 +26,7 @@ use Rattle.broadcast.specs.Projections.{grant_entries, HasNumbers, after_setting
 use Rattle.broadcast.specs.Shown.{grants_set, Shows}
 use Rattle.grant_table.specs.GrantTables.{TableRecord, IsSound}
 use Rattle.ledger_law.specs.Shapes.{IsTally}
-use Rattle.written_net.specs.Sides.{Side, appended}
 use Rattle.core_side.specs.Bodies.{tally_of}
-use Rattle.core_side.specs.CoreSides.{IsSide, IsShown}
 use Rattle.broadcast.specs.AllShown.{App, is_job, credited_in, credited_after, grants_after, ShowsGrants}
 use Rattle.broadcast.specs.OneJob.{AreOf, AreNumbersOf, IsNews, machines_of, reported_numbers, credited_to, numbers_of, JobIsBefore}
 use Rattle.broadcast.specs.declared.grants.News.{News}
@@ -46,34 +44,6 @@ pub record Laws : Type 0 where
 -- grants are shown
 abbrev pub ShowsNumbers : Bool → TallyRecord → App → App → Type 0
 ShowsNumbers forced ledger old new = Shows empty_tally (patched_tally Below TooGreat greatest_grant credited_what) (IsTally greatest_grant) tally_of tally_of forced ledger old new
-
-abbrev pub IsShownAlready : App → Type 0
-IsShownAlready d = IsShown empty_tally (patched_tally Below TooGreat greatest_grant credited_what) (IsTally greatest_grant) tally_of tally_of d
-
--- where no number is set, under the boot that they have, they are as they are
-pub shown_quiet : (forced : Bool) (d : App) (boot : ℕ) (ns : List (Key × ℕ)) → forced ≡ false → boot ≡ d.outgoing.present.head → ns ≡ [] → IsShownAlready d → ShowsNumbers forced (grants_set d.outgoing.present boot ns) d d
-shown_quiet forced d boot ns not_forced head none shown = record {
-  present = same;
-  side = λ inc e s. subst (λ b. IsAppSide inc (appended b (tally_of ledger) e)) (sym not_forced)
-      (subst (λ g. IsAppSide inc (appended false (tally_of g) e)) same (subst (IsAppSide inc) (sym (shown inc e s)) s));
-  last = omega arith;
-  own = refl;
-  rest = refl;
-}
-  where
-    t : TallyRecord
-    t = d.outgoing.present
-
-    ledger : TallyRecord
-    ledger = grants_set t boot ns
-
-    IsAppSide : ℕ → Side → Type 0
-    IsAppSide inc e = IsSide empty_tally (patched_tally Below TooGreat greatest_grant credited_what) (IsTally greatest_grant) tally_of tally_of d inc e
-
-    same : t ≡ ledger
-    same =
-        let is : nat_eq boot t.head ≡ true = ap (λ n. nat_eq n t.head) head ∙ nat_itself t.head in
-        (λ i. record { head = sym head i; entries = sym (ap (λ b. cond b t.entries (where_key key_cmp (λ k. not (nat_eq k.what credited_what)) t.entries)) is) i }) ∙ ap (grants_set t boot) (sym none)
 
 -- Kinds of numbers
 kind_put : (w : ℕ) (k : Key) (n : ℕ) (es : List (Key × ℕ)) → nat_eq k.what w ≡ true → AreOf w es → AreOf w (put key_cmp k n es)

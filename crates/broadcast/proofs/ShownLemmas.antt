@@ -1,13 +1,21 @@
 -- When a peer is shown a ledger by a change that is posted, and by none.
-use Rattle.std.proofs.Common.{◌≡◌, ℕ, ◌+◌, Bool, true, false, not, nat_eq, List, [], ◌∷◌, length, Result, Ok, refl, sym, ◌∙◌, ap, subst, arith}
+use Rattle.std.proofs.Common.{◌≡◌, ℕ, ◌+◌, Bool, true, false, cond, not, nat_eq, List, [], ◌∷◌, ◌++◌, length, Result, Ok, refl, sym, ◌∙◌, ap, subst, arith}
 use Rattle.std.specs.Prelude.{◌||◌}
 use Rattle.std.proofs.lemmas.Bool.Decides.{nat_tests}
 use Rattle.fuxi_terms.specs.declared.answers.LedgerFault.{LedgerFault}
 use Rattle.full_sync.specs.Turns.{Endpoint}
-use Rattle.written_net.specs.Ledgers.{Ledger}
-use Rattle.written_net.specs.Sides.{Side, appended}
-use Rattle.core_side.specs.CoreSides.{IsSide, PostsAlike, IsShown}
+use Rattle.fuxi_terms.specs.Counts.{is_same}
+use Rattle.fuxi_terms.specs.Keys.{row_cmp}
+use Rattle.fuxi_terms.proofs.Booleans.{nat_itself, and_true}
+use Rattle.fuxi_terms.proofs.KeyOrders.{key_total, row_key_total}
+use Rattle.fuxi_terms.proofs.SameEntries.{same_itself}
+use Rattle.written_net.specs.Ledgers.{Ledger, same_ledger}
+use Rattle.written_net.specs.Sides.{Side, shown, appended}
+use Rattle.core_side.specs.CoreSides.{IsSide, PostsAlike}
 use Rattle.broadcast.specs.Shown.{Shows}
+
+ledger_itself : (l : Ledger) → same_ledger l l ≡ true
+ledger_itself l = and_true (nat_eq l.head l.head) _ (nat_itself l.head) (and_true (is_same row_cmp l.rows l.rows) _ (same_itself row_key_total l.rows) (same_itself key_total l.entries))
 
 module _ {V D W : Type 0} (nothing : V) (patched : V → D → Result V LedgerFault) (valid : V → Type 0) (out : V → Ledger) (inward : W → Ledger) where
   pub shown_posted : (forced : Bool) (ledger : V) (change : D) (old new : Endpoint V D W) → patched old.outgoing.present change ≡ Ok ledger → patched old.outgoing.present change ≡ Ok new.outgoing.present
@@ -28,11 +36,14 @@ module _ {V D W : Type 0} (nothing : V) (patched : V → D → Result V LedgerFa
       by true is inc e s = (posts inc e s).forced
       by false is inc e s = (posts inc e s).differing (λ h. let both : Ok new.outgoing.present ≡ Ok ledger = sym made ∙ leads in let same : new.outgoing.present ≡ ledger = cc in differs is (h ∙ ap out same))
 
-  pub shown_kept : (forced : Bool) (ledger : V) (old : Endpoint V D W) → forced ≡ false → old.outgoing.present ≡ ledger → IsShown nothing patched valid out inward old → Shows nothing patched valid out inward forced ledger old old
-  shown_kept forced ledger old not_forced same shown = record {
+  -- what is shown already stays
+  pub shown_kept : (forced : Bool) (ledger : V) (old : Endpoint V D W) → forced ≡ false → old.outgoing.present ≡ ledger → Shows nothing patched valid out inward forced ledger old old
+  shown_kept forced ledger old not_forced same = record {
     present = same;
-    side = λ inc e s. subst (λ b. IsSide nothing patched valid out inward old inc (appended b (out ledger) e)) (sym not_forced)
-        (subst (λ l. IsSide nothing patched valid out inward old inc (appended false (out l) e)) same (subst (IsSide nothing patched valid out inward old inc) (sym (shown inc e s)) s));
+    side = λ inc e s.
+        let due : same_ledger (shown e) (out ledger) ≡ true = ap (λ l. same_ledger l (out ledger)) (s.shown ∙ ap out same) ∙ ledger_itself (out ledger) in
+        let none : appended forced (out ledger) e ≡ e = ap (λ b. appended b (out ledger) e) not_forced ∙ ap (λ b. cond (not b) (record { link = e.link; got = e.got; sent = e.sent ++ out ledger ∷ [] }) e) due in
+        subst (IsSide nothing patched valid out inward old inc) (sym none) s;
     last = omega arith;
     own = refl;
     rest = refl;

@@ -1,110 +1,131 @@
 -- The applications of all slots, one after another.
-use Rattle.std.proofs.Common.{◌≡◌, ℕ, zero, suc, ◌+◌, ◌<◌, ◌≤◌, Bool, true, false, cond, nat_eq, nat_lt, List, [], ◌∷◌, length, map, get_or, set, Option, Some, None, slice_get, refl, sym, ◌∙◌, ap, subst, arith, append-nil, length-set}
-use Rattle.std.specs.Prelude.{◌||◌}
+use Rattle.std.proofs.Common.{◌≡◌, ℕ, zero, suc, ◌<◌, ◌≤◌, Bool, true, false, cond, nat_eq, nat_lt, List, [], ◌∷◌, ◌++◌, length, map, filter, get_or, set, Option, Some, None, slice_get, refl, sym, ◌∙◌, ap, subst, arith, append-nil, length-set, inl, inr}
+use Rattle.std.specs.Prelude.{T, ◌||◌}
+use Rattle.std.specs.Option.{is_some, unwrap_or}
+use Rattle.std.specs.Ordering.{eq_by_cmp, is_lt, nat_cmp, ordering_then}
+use Rattle.std.specs.Cmp.{nat_cmp_is}
+use Rattle.std.specs.declared.cmp.Ordering.TheVariants.{Greater}
 use Rattle.std.specs.List.{AllByRecursion}
+use Rattle.std.specs.List.Sorted.{IsNonDecreasingBy}
+use Rattle.std.specs.FinMap.Entries.{below_all, is_sorted, find, where_key}
+use Rattle.std.proofs.lemmas.Bool.{cases_lt}
 use Rattle.std.proofs.lemmas.Bool.Decides.{nat_tests}
-use Rattle.std.specs.Global.{Vec}
-use Rattle.std.proofs.lemmas.Option.{slice_get_within, slice_get-get_or}
-use Rattle.fuxi_terms.specs.declared.Key.{Key}
-use Rattle.fuxi_terms.specs.Keys.{Spot}
-use Rattle.fuxi_terms.specs.Numbers.{has_number, with_number}
-use Rattle.fuxi_terms.proofs.Booleans.{number_is, nat_itself, or_false}
+use Rattle.std.proofs.lemmas.Option.{slice_get_read, slice_get_within}
+use Rattle.fuxi_terms.specs.Counts.{count}
+use Rattle.fuxi_terms.specs.Keys.{Spot, spot_cmp, key_cmp}
+use Rattle.fuxi_terms.specs.Limits.{greatest_count}
+use Rattle.fuxi_terms.specs.Numbers.{has_number}
+use Rattle.fuxi_terms.specs.NumbersSet.{numbers_set}
 use Rattle.fuxi_terms.specs.Tables.{Table}
+use Rattle.fuxi_terms.specs.Tallies.{empty_tally, patched_tally}
+use Rattle.fuxi_terms.specs.TallyKeys.{reported_key, count_key, greatest_grant, credited_what}
+use Rattle.fuxi_terms.specs.declared.Key.{Key}
+use Rattle.fuxi_terms.specs.declared.answers.LedgerFault.TheVariants.{Below, TooGreat}
+use Rattle.fuxi_terms.proofs.Booleans.{number_is, nat_itself, or_false}
+use Rattle.fuxi_terms.proofs.CountsLemmas.{both_true, tied, same_counts, counts-where_key, count_where}
+use Rattle.fuxi_terms.proofs.KeyOrders.{spot_total, same_spot}
+use Rattle.fuxi_terms.proofs.NumbersLemmas.{among, with_is}
+use Rattle.ledger_law.specs.Shapes.{IsTally}
+use Rattle.core_side.specs.Bodies.{tally_of}
 use Rattle.written_roles.specs.MasterSteps.{count_entries}
 use Rattle.broadcast.specs.Projections.{grant_entries}
 use Rattle.schedule_unit.specs.declared.party.MachineNo.{MachineNo}
 use Rattle.grant_table.specs.GrantTables.{TableRecord, IsSound}
-use Rattle.broadcast.specs.AllShown.{App, is_job, credited_in, with_reported, GrantsAreBefore, ShowsAllGrants}
-use Rattle.broadcast.specs.OneJob.{counts_at, lists_of, AreOfJobs, reported_now, machines_of, JobIsBefore, SlotIsShown, IsInSlot, AreShown}
+use Rattle.broadcast.specs.AllShown.{App, is_job, credited_in, credited_after, grants_after, with_reported, GrantsAreBefore, ShowsGrants, IsShownAnew, ShowsAllGrants}
+use Rattle.broadcast.specs.OfNumbers.{of_number}
+use Rattle.broadcast.specs.OneJob.{counts_at, with_job, reported_now, machines_of, JobIsBefore, SlotIsShown, IsInSlot, IsNotOf, AreShown}
 use Rattle.broadcast.specs.declared.grants.News.{News}
+use Rattle.broadcast.proofs.OfNumbersLemmas.{of_mapped, was_done, not_done, got_same, got_other}
+use Rattle.broadcast.proofs.ShownLemmas.{shown_kept}
 use Rattle.broadcast.proofs.Touched.{touched_follow}
 
--- one written place
-got_same : {X : Type 0} (xs : List X) (i : ℕ) (y : X) → i < length xs → slice_get (set xs i y) i ≡ Some y
-got_same [] i y lt = absurd (omega (arith, lt))
-got_same (x ∷ xs) zero y lt = refl
-got_same (x ∷ xs) (suc i) y lt = got_same xs i y (omega (arith, lt))
+-- one slot after another
+pub none_shown : (touched : Table) (news : News) (apps : List (Option App)) → AreShown touched news [] apps apps
+none_shown touched news apps = record { wide = refl; none = λ a e. e; some = λ a d is. cc; rest = λ a _. refl }
 
-got_other : {X : Type 0} (xs : List X) (i j : ℕ) (y : X) → nat_eq i j ≡ false → slice_get (set xs i y) j ≡ slice_get xs j
-got_other [] i j y h = refl
-got_other (x ∷ xs) zero zero y h = cc
-got_other (x ∷ xs) zero (suc j) y h = refl
-got_other (x ∷ xs) (suc i) zero y h = refl
-got_other (x ∷ xs) (suc i) (suc j) y h = got_other xs i j y (let n : nat_eq (suc i) (suc j) ≡ false = h in grind (arith, nat_tests, n))
+-- the next slot
+pub turn : (touched : Table) (news : News) (done : List ℕ) (i : ℕ) (old new : List (Option App)) (was : Option App) → AreShown touched news done old new → has_number i done ≡ false → i < length new → was ≡ get_or new i was → slice_get old i ≡ Some was
+turn touched news done i old new was h left lt is = sym (h.rest i left) ∙ slice_get_read new (length new) i was refl lt is
 
--- the counts of a slot
-pub slot_counts : (touched : Table) (jobs : ℕ) (all : Vec (Vec (Key × ℕ))) (lists : List (Vec (Key × ℕ))) (a : ℕ) (cs : List (Key × ℕ)) → AreOfJobs touched jobs all.items → a < jobs → lists ≡ all.items → cs ≡ get_or (lists_of lists) a [] → cs ≡ count_entries a touched
-slot_counts touched jobs all lists a cs h lt are is = is ∙ ap (λ (l : List (Vec (Key × ℕ))). get_or (lists_of l) a []) are ∙ h a lt
+module _ (touched : Table) (news : News) (old new : List (Option App)) (done after : List ℕ) (i : ℕ) (more : (a : ℕ) → has_number a after ≡ (has_number a done || nat_eq a i)) (h : AreShown touched news done old new) where
+  -- that is none
+  pub shown_over : length old ≤ i → AreShown touched news after old new
+  shown_over le = record {
+    wide = h.wide;
+    none = h.none;
+    some = λ a d is e. elim (nat_eq a i) as (λ b. nat_eq a i ≡ b → IsInSlot touched news a d new) [
+      | true ↦ λ same. let lt = slice_get_within old a (Some d) e in let here = number_is a i same in absurd (omega (arith, lt, here, le))
+      | false ↦ λ differs. h.some a d (was_done done after i more a differs is) e
+    ] refl;
+    rest = λ a is. h.rest a (not_done done after i more a is).0;
+  }
 
-pub in_slot : (slots : List (Option App)) (a : ℕ) (o : Option App) → a < length slots → o ≡ get_or slots a o → slice_get slots a ≡ Some o
-in_slot slots a o lt is = slice_get-get_or slots a o lt ∙ ap (λ x. Some x) (sym is)
+  -- whose application is shown its grants
+  pub one_shown : (was slot : Option App) → i < length new → slice_get old i ≡ Some was → (was ≡ None → slot ≡ None) → ((d : App) → was ≡ Some d → SlotIsShown news i (count_entries i touched) d slot) → AreShown touched news after old (set new i slot)
+  one_shown was slot lt was_old none some = record {
+    wide = length-set new i slot ∙ h.wide;
+    none = λ a e. no_app a (nat_eq a i) refl e;
+    some = λ a d is e. an_app a d (nat_eq a i) refl is e;
+    rest = λ a is. got_other new i a slot (not_done done after i more a is).1 ∙ h.rest a (not_done done after i more a is).0;
+  }
+    where
+      no_app : (a : ℕ) (b : Bool) → nat_eq a i ≡ b → slice_get old a ≡ Some None → slice_get (set new i slot) a ≡ Some None
+      no_app a true t e =
+          let same : i ≡ a = sym (number_is a i t) in
+          let here : Some was ≡ Some None = sym was_old ∙ ap (slice_get old) same ∙ e in
+          ap (slice_get (set new i slot)) (sym same) ∙ got_same new i slot lt ∙ ap (λ s. Some s) (none cc)
+      no_app a false t e = got_other new i a slot t ∙ h.none a e
 
-pub none_shown : (touched : Table) (news : News) (apps : List (Option App)) → AreShown touched news 0 apps apps
-none_shown touched news apps = record { wide = refl; none = λ a e. e; some = λ a d lt. absurd (omega (arith, lt)); rest = λ a _. refl }
+      an_app : (a : ℕ) (d : App) (b : Bool) → nat_eq a i ≡ b → has_number a after ≡ true → slice_get old a ≡ Some (Some d) → IsInSlot touched news a d (set new i slot)
+      an_app a d true t is e =
+          let same : i ≡ a = sym (number_is a i t) in
+          let here : Some was ≡ Some (Some d) = sym was_old ∙ ap (slice_get old) same ∙ e in
+          subst (λ k. IsInSlot touched news k d (set new i slot)) same (record { slot = slot; there = got_same new i slot lt; shown = some d cc })
+      an_app a d false t is e =
+          let before = h.some a d (was_done done after i more a t is) e in
+          record { slot = before.slot; there = got_other new i a slot t ∙ before.there; shown = before.shown }
 
--- one slot more
-pub one_shown : (touched : Table) (news : News) (i : ℕ) (old new : List (Option App)) (was slot : Option App) → AreShown touched news i old new → i < length new → slice_get new i ≡ Some was
-    → (was ≡ None → slot ≡ None) → ((d : App) → was ≡ Some d → SlotIsShown news i (count_entries i touched) d slot) → AreShown touched news (i + 1) old (set new i slot)
-one_shown touched news i old new was slot h lt is none some = record {
-  wide = length-set new i slot ∙ h.wide;
-  none = λ a e. no_app a (nat_eq i a) refl e;
-  some = λ a d la e. an_app a d (nat_eq i a) refl la e;
-  rest = λ a le. got_other new i a slot (grind (arith, nat_tests, le)) ∙ h.rest a (omega (arith, le));
-}
+-- the counts of a job among those of all
+pub counts_of : (a : ℕ) (touched : Table) → of_number a (map with_job touched) ≡ count_entries a touched
+counts_of a touched = of_mapped a (λ (e : Spot × ℕ). e.0.job) (λ (e : Spot × ℕ). (count_key e.0.unit e.0.machine, e.1)) touched
+
+-- which stand in the order of jobs
+job_le : (s x : Spot) → T (is_lt (spot_cmp s x)) → s.job ≤ x.job
+job_le s x lt = elim (cases_lt x.job s.job) [
+  | inl more ↦ absurd (subst (λ r. T (is_lt (ordering_then r (ordering_then (nat_cmp s.unit x.unit) (nat_cmp s.machine x.machine))))) (sym (nat_cmp_is s.job x.job Greater more)) lt)
+  | inr le ↦ le
+]
+
+pub jobs_rise : (es : Table) → T (is_sorted spot_cmp es) → IsNonDecreasingBy (λ e. e.0) (map with_job es)
+jobs_rise [] h i j d le lt = absurd (omega (arith, lt))
+jobs_rise (e ∷ es) h zero zero d le lt = omega arith
+jobs_rise (e ∷ es) h zero (suc j) d le lt = above es j (both_true (below_all spot_cmp e.0 es) (is_sorted spot_cmp es) h).0 (omega (arith, lt))
   where
-    was_old : slice_get old i ≡ Some was
-    was_old = sym (h.rest i (omega arith)) ∙ is
+    above : (es : Table) (j : ℕ) → T (below_all spot_cmp e.0 es) → j < length (map with_job es) → e.0.job ≤ (get_or (map with_job es) j d).0
+    above [] j h lt = absurd (omega (arith, lt))
+    above (x ∷ es) zero h lt = job_le e.0 x.0 (both_true (is_lt (spot_cmp e.0 x.0)) (below_all spot_cmp e.0 es) h).0
+    above (x ∷ es) (suc j) h lt = above es j (both_true (is_lt (spot_cmp e.0 x.0)) (below_all spot_cmp e.0 es) h).1 (omega (arith, lt))
+jobs_rise (e ∷ es) h (suc i) zero d le lt = absurd (omega (arith, le))
+jobs_rise (e ∷ es) h (suc i) (suc j) d le lt = jobs_rise es (both_true (below_all spot_cmp e.0 es) (is_sorted spot_cmp es) h).1 i j d (omega (arith, le)) (omega (arith, lt))
 
-    no_app : (a : ℕ) (b : Bool) → nat_eq i a ≡ b → slice_get old a ≡ Some None → slice_get (set new i slot) a ≡ Some None
-    no_app a true t e =
-        let same : i ≡ a = number_is i a t in
-        let here : Some was ≡ Some None = sym was_old ∙ ap (slice_get old) same ∙ e in
-        ap (slice_get (set new i slot)) (sym same) ∙ got_same new i slot lt ∙ ap (λ s. Some s) (none cc)
-    no_app a false t e = got_other new i a slot t ∙ h.none a e
-
-    an_app : (a : ℕ) (d : App) (b : Bool) → nat_eq i a ≡ b → a < i + 1 → slice_get old a ≡ Some (Some d) → IsInSlot touched news a d (set new i slot)
-    an_app a d true t la e =
-        let same : i ≡ a = number_is i a t in
-        let here : Some was ≡ Some (Some d) = sym was_old ∙ ap (slice_get old) same ∙ e in
-        subst (λ k. IsInSlot touched news k d (set new i slot)) same (record { slot = slot; there = got_same new i slot lt; shown = some d cc })
-    an_app a d false t la e =
-        let before = h.some a d (grind (arith, nat_tests, t, la)) e in
-        record { slot = before.slot; there = got_other new i a slot t ∙ before.there; shown = before.shown }
-
--- Numbers in a set of numbers
-has_with : (n m : ℕ) (rs : List ℕ) → has_number m (with_number n rs) ≡ (nat_eq m n || has_number m rs)
-has_with n m [] = refl
-has_with n m (r ∷ rs) = by (nat_lt n r) (nat_eq n r) refl (has_with n m rs)
+-- what is not among the counts of its job is not there
+none_found : (a : ℕ) (q : Spot) (es : Table) → nat_eq q.job a ≡ true → count_entries a es ≡ [] → find spot_cmp q es ≡ None
+none_found a q [] is h = refl
+none_found a q (e ∷ es) is h = by (nat_eq e.0.job a) (eq_by_cmp spot_cmp q e.0) refl refl (none_found a q es is) h
   where
-    twice : (b c : Bool) → (b || c) ≡ (b || (b || c))
-    twice true c = refl
-    twice false c = refl
-
-    turned : (b c d : Bool) → (b || (c || d)) ≡ (c || (b || d))
-    turned true true d = refl
-    turned true false d = refl
-    turned false c d = refl
-
-    by : (b c : Bool) → nat_eq n r ≡ c → has_number m (with_number n rs) ≡ (nat_eq m n || has_number m rs) → has_number m (cond b (n ∷ r ∷ rs) (cond c (r ∷ rs) (r ∷ with_number n rs))) ≡ (nat_eq m n || (nat_eq m r || has_number m rs))
-    by true c e rest = refl
-    by false true e rest = twice (nat_eq m r) (has_number m rs) ∙ ap (λ k. nat_eq m k || (nat_eq m r || has_number m rs)) (sym (number_is n r e))
-    by false false e rest = ap (λ b. nat_eq m r || b) rest ∙ turned (nat_eq m r) (nat_eq m n) (has_number m rs)
-
-all_member : (P : ℕ → Type 0) (n : ℕ) (ms : List ℕ) → AllByRecursion P ms → has_number n ms ≡ true → P n
-all_member P n [] h e = cc
-all_member P n (m ∷ ms) h e = elim (nat_eq n m) as (λ b. nat_eq n m ≡ b → (b || has_number n ms) ≡ true → P n) [
-  | true ↦ λ t _. subst P (sym (number_is n m t)) h.0
-  | false ↦ λ _ e. all_member P n ms h.1 e
-] refl e
+    by : (b c : Bool) → nat_eq e.0.job a ≡ b → eq_by_cmp spot_cmp q e.0 ≡ c → (count_entries a es ≡ [] → find spot_cmp q es ≡ None) → map {B = Key × ℕ} (λ (e : Spot × ℕ). (count_key e.0.unit e.0.machine, e.1)) (cond b (e ∷ filter (λ e. nat_eq e.0.job a) es) (filter (λ e. nat_eq e.0.job a) es)) ≡ [] → cond c (Some e.1) (find spot_cmp q es) ≡ None
+    by true c job same rest h = cc
+    by false true job same rest h = let f : true ≡ false = sym is ∙ ap (λ (s : Spot). nat_eq s.job a) (same_spot q e.0 (tied _ same)) ∙ job in cc
+    by false false job same rest h = rest h
 
 -- the machines that are reported now, after one more
 reported_more : (r : Option MachineNo) (rs now : List ℕ) → now ≡ with_reported r rs → AllByRecursion (λ m. m < 256) now → (m : ℕ) → has_number m now ≡ (has_number m (reported_now r) || has_number m rs)
 reported_more None rs now is below m = ap (has_number m) is
 reported_more (Some n) rs now is below m =
-    let in_now : has_number n.0 now ≡ true = ap (has_number n.0) is ∙ has_with n.0 n.0 rs ∙ ap (λ b. b || has_number n.0 rs) (nat_itself n.0) in
-    let small : n.0 < 256 = all_member (λ m. m < 256) n.0 now below in_now in
+    let in_now : has_number n.0 now ≡ true = ap (has_number n.0) is ∙ with_is n.0 n.0 rs ∙ ap (λ b. b || has_number n.0 rs) (nat_itself n.0) in
+    let small : n.0 < 256 = among (λ m. m < 256) n.0 now below in_now in
     let test : nat_lt n.0 256 ≡ true = grind (arith, nat_tests, small) in
-    ap (has_number m) is ∙ has_with n.0 m rs ∙ ap (λ b. b || has_number m rs) (sym (or_false (nat_eq m n.0))) ∙ ap (λ b. has_number m (cond b (n.0 ∷ []) []) || has_number m rs) (sym test)
+    ap (has_number m) is ∙ with_is m n.0 rs ∙ ap (λ b. b || has_number m rs) (sym (or_false (nat_eq m n.0))) ∙ ap (λ b. has_number m (cond b (n.0 ∷ []) []) || has_number m rs) (sym test)
 
 -- what is known of all applications before, for one of them
 module _ (t : TableRecord) (sound : IsSound t) (ss : List Spot) (news : News) (now : List ℕ) (apps : List (Option App)) (g : GrantsAreBefore t ss news now apps) (a : ℕ) (d : App) (there : slice_get apps a ≡ Some (Some d)) where
@@ -142,12 +163,48 @@ module _ (t : TableRecord) (sound : IsSound t) (ss : List Spot) (news : News) (n
             shown = g.each a d there is;
           }
 
--- all are shown
-pub all_shown : (t : TableRecord) (ss : List Spot) (news : News) (jobs : ℕ) (old new : List (Option App)) → IsSound t → length old ≤ jobs → AreShown (counts_at t ss) news jobs old new → (now : List ℕ) → GrantsAreBefore t ss news now old → ShowsAllGrants t news now old new
-all_shown t ss news jobs old new sound wide h now g = record {
+  -- where nothing is of the job, its application has what it is to have
+  quiet : count_entries a (counts_at t ss) ≡ [] → IsNotOf news a → ShowsGrants t news now a d d
+  quiet untouched n = record {
+    shows = shown_kept empty_tally (patched_tally Below TooGreat greatest_grant credited_what) (IsTally greatest_grant) tally_of tally_of (is_job news.admitted a) (grants_after t news now a d) d n.admitted stays;
+    credited = credited;
+  }
+    where
+      boot : d.outgoing.present.head ≡ d.incoming.place.inc
+      boot = g.boots a d there n.admitted n.job
+
+      credited : credited_in d.outgoing.present.entries ≡ credited_after news a d
+      credited =
+          let same : nat_eq d.incoming.place.inc d.outgoing.present.head ≡ true = ap (λ n. nat_eq n d.outgoing.present.head) (sym boot) ∙ nat_itself d.outgoing.present.head in
+          sym (λ i. numbers_set key_cmp (cond (same i) (credited_in d.outgoing.present.entries) []) (cond (n.job i) news.credited.items []))
+
+      counts : count_entries a g.before ≡ count_entries a t.entries
+      counts = ap (map {B = Key × ℕ} (λ (e : Spot × ℕ). (count_key e.0.unit e.0.machine, e.1))) (same_counts spot_total same_spot (λ _. greatest_count) (where_key spot_cmp (λ s. nat_eq s.job a) g.before) (where_key spot_cmp (λ s. nat_eq s.job a) t.entries)
+          (counts-where_key spot_total (λ _. greatest_count) (λ s. nat_eq s.job a) g.before g.is.counts) (counts-where_key spot_total (λ _. greatest_count) (λ s. nat_eq s.job a) t.entries sound.counts)
+          (λ q. count_where spot_cmp same_spot (λ s. nat_eq s.job a) g.before q ∙ at (nat_eq q.job a) q refl ∙ sym (count_where spot_cmp same_spot (λ s. nat_eq s.job a) t.entries q)))
+        where
+          at : (b : Bool) (q : Spot) → nat_eq q.job a ≡ b → cond b (count spot_cmp g.before q) 0 ≡ cond b (count spot_cmp t.entries q) 0
+          at true q is = sym (touched_follow t ss g.before sound g.is q ∙ ap (λ (r : Option ℕ). cond (is_some r) (unwrap_or r 0) (count spot_cmp g.before q)) (none_found a q (counts_at t ss) is untouched))
+          at false q is = refl
+
+      stays : d.outgoing.present ≡ grants_after t news now a d
+      stays =
+          let machines : g.reported ≡ now = sym (g.is_now ∙ ap (λ r. with_reported r g.reported) n.reported) in
+          let entries = g.each a d there n.admitted in
+          λ i. record { head = boot i; entries = (entries ∙ (λ j. grant_entries a (machines j) (g.before) (credited j)) ∙ ap (λ es. map (λ m. (reported_key m, 1)) now ++ (es ++ credited_after news a d)) counts) i }
+
+-- all are shown: those that were not looked at have what they are to have
+pub all_shown : (t : TableRecord) (ss : List Spot) (news : News) (due : List ℕ) (old new : List (Option App)) → IsSound t → AreShown (counts_at t ss) news due old new
+    → ((a : ℕ) → a < length old → has_number a due ≡ false → (count_entries a (counts_at t ss) ≡ []) × IsNotOf news a) → (now : List ℕ) → GrantsAreBefore t ss news now old → ShowsAllGrants t news now old new
+all_shown t ss news due old new sound h rest now g = record {
   wide = h.wide;
   none = h.none;
-  some = λ a d e.
-      let s = h.some a d (let lt = slice_get_within old a (Some d) e in omega (arith, lt, wide)) e in
-      record { new = s.shown.new; there = s.there ∙ ap (λ o. Some o) s.shown.there; shows = s.shown.shows t now (job_is_before t sound ss news now old g a d e) };
+  some = λ a d e. elim (has_number a due) as (λ b. has_number a due ≡ b → IsShownAnew t news now a d new) [
+    | true ↦ λ is.
+        let s = h.some a d is e in
+        record { new = s.shown.new; there = s.there ∙ ap (λ o. Some o) s.shown.there; shows = s.shown.shows t now (job_is_before t sound ss news now old g a d e) }
+    | false ↦ λ is.
+        let q = rest a (slice_get_within old a (Some d) e) is in
+        record { new = d; there = h.rest a is ∙ e; shows = quiet t sound ss news now old g a d e q.0 q.1 }
+  ] refl;
 }

@@ -19,7 +19,8 @@ use Rattle.fuxi_terms.specs.NumbersSet.{IsSetTo}
 use Rattle.fuxi_terms.specs.Tables.{Table}
 use Rattle.grant_table.specs.GrantTables.{TableRecord, as_known, AreJobs, IsSound}
 use Rattle.broadcast.specs.AllShown.{has_spot, AreInOrder, IsBefore}
-use Rattle.broadcast.specs.OneJob.{has_place, counts_at}
+use Rattle.broadcast.specs.OneJob.{counts_at}
+use Rattle.broadcast.specs.TouchedNumbers.{has_place}
 use Rattle.broadcast.proofs.InOrder.{both, IsSmall}
 
 between_le : (a b n : ℕ) → is_between a b n ≡ true → n ≤ b

@@ -24,7 +24,9 @@ use Rattle.broadcast.specs.Projections.{row_of, spot_of, RowFollows}
 use Rattle.fuxi_terms.specs.NumbersSet.{numbers_set, AreNumbers}
 use Rattle.fuxi_terms.specs.Tables.{Table}
 use Rattle.broadcast.specs.AllShown.{has_spot, AreInOrder, IsBefore}
-use Rattle.broadcast.specs.TouchedNumbers.{is_touched, number_at, touched_on, MayBeSet}
+use Rattle.broadcast.specs.OfNumbers.{of_number}
+use Rattle.broadcast.specs.TouchedNumbers.{has_place, is_touched, number_at, touched_in, touched_on, MayBeSet}
+use Rattle.broadcast.proofs.OfNumbersLemmas.{of_mapped}
 use Rattle.broadcast.proofs.RisingKeys.{one_spot, sorted_keys}
 use Rattle.broadcast.proofs.UnitKeys.{IsUnitKey, key_is, few_keys, all_joined}
 
@@ -168,3 +170,23 @@ module _ (t : TableRecord) (sound : IsSound t) (m : ℕ) where
     together = touched_together ss order (row_of jobs m before) (row_units before is.counts is.admitted);
     few = touched_few ss order;
   }
+
+-- of the numbers of all machines, those of one
+pub touched_of : (t : TableRecord) (m : ℕ) (ss : List Spot) → m < length t.cluster.machines → of_number m (touched_in t ss) ≡ touched_on t m ss
+touched_of t m ss lt = of_mapped m (λ (s : Spot). s.machine) (number_at t) (filter (has_place t) ss) ∙ ap (map (number_at t)) (places ss)
+  where
+    there : (s : Spot) → nat_eq s.machine m ≡ true → nat_lt s.machine (length t.cluster.machines) ≡ true
+    there s e = let is = number_is s.machine m e in grind (arith, nat_tests, is, lt)
+
+    places : (ss : List Spot) → filter (λ s. nat_eq s.machine m) (filter (has_place t) ss) ≡ filter (is_touched t m) ss
+    places [] = refl
+    places (s ∷ ss) = by (nat_eq s.machine m) (nat_lt s.unit (unit_count (as_known t.jobs) s.job)) (nat_lt s.machine (length t.cluster.machines)) refl refl (places ss)
+      where
+        by : (e u l : Bool) → nat_eq s.machine m ≡ e → nat_lt s.machine (length t.cluster.machines) ≡ l → filter (λ s. nat_eq s.machine m) (filter (has_place t) ss) ≡ filter (is_touched t m) ss
+            → filter (λ s. nat_eq s.machine m) (cond (u && l) (s ∷ filter (has_place t) ss) (filter (has_place t) ss)) ≡ cond (e && u) (s ∷ filter (is_touched t m) ss) (filter (is_touched t m) ss)
+        by true true true is on rest = ap (λ b. cond b (s ∷ filter (λ s. nat_eq s.machine m) (filter (has_place t) ss)) (filter (λ s. nat_eq s.machine m) (filter (has_place t) ss))) is ∙ ap (λ xs. s ∷ xs) rest
+        by true true false is on rest = let f : false ≡ true = sym on ∙ there s is in cc
+        by false true true is on rest = ap (λ b. cond b (s ∷ filter (λ s. nat_eq s.machine m) (filter (has_place t) ss)) (filter (λ s. nat_eq s.machine m) (filter (has_place t) ss))) is ∙ rest
+        by false true false is on rest = rest
+        by true false l is on rest = rest
+        by false false l is on rest = rest

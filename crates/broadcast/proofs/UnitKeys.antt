@@ -1,6 +1,6 @@
 -- Keys of rows that are those of admitted units, and how many there are.
 use Rattle.std.proofs.Common.{◌≡◌, ℕ, zero, suc, ◌+◌, ◌*◌, ◌<◌, ◌≤◌, Bool, true, false, cond, nat_eq, nat_lt, List, [], ◌∷◌, length, refl, sym, ◌∙◌, ap, subst, arith}
-use Rattle.std.specs.Prelude.{T, IsTrue, Some, slice_get, ◌&&◌, not}
+use Rattle.std.specs.Prelude.{T, IsTrue, Some, slice_get}
 use Rattle.std.specs.Option.{unwrap_or, option_map}
 use Rattle.std.specs.List.{AllByRecursion, list_all}
 use Rattle.std.specs.Ordering.{nat_cmp, ordering_then, is_lt}

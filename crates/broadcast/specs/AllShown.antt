@@ -97,6 +97,8 @@ pub record GrantsAreBefore (t : TableRecord) (spots : List Spot) (news : News) (
   pub below : AllByRecursion (λ m. m < most_machines) now
   pub each : (a : ℕ) (d : App) → slice_get apps a ≡ Some (Some d) → is_job news.admitted a ≡ false → ShowsJob a reported before d.outgoing.present
   pub new : (a : ℕ) (d : App) → slice_get apps a ≡ Some (Some d) → is_job news.admitted a ≡ true → d.outgoing.present.entries ≡ []
+  -- the application of another job than the one that is admitted or the one of which something came has the boot that is known of it
+  pub boots : (a : ℕ) (d : App) → slice_get apps a ≡ Some (Some d) → is_job news.admitted a ≡ false → is_job news.job a ≡ false → d.outgoing.present.head ≡ d.incoming.place.inc
   pub machines : (a : ℕ) → is_job news.admitted a ≡ true → map (λ (m : MachineNo). m.0) news.machines.items ≡ now
   pub nothing : (a : ℕ) → is_job news.admitted a ≡ true → count_entries a before ≡ []
 

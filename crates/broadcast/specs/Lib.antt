@@ -2,5 +2,6 @@ pub mod Shown
 pub mod Projections
 pub mod PickOrders
 pub mod AllShown
+pub mod OfNumbers
 pub mod TouchedNumbers
 pub mod OneJob

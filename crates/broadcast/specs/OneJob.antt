@@ -1,44 +1,30 @@
 -- What is set in the grants of one job: machines that are reported, the counts at the spots that were touched, and what is credited.
-use Rattle.std.specs.Prelude.{◌≡◌, ℕ, ◌<◌, ◌≤◌, true, cond, nat_eq, nat_lt, Bool, ◌&&◌, ◌||◌, T, List, [], ◌∷◌, ◌++◌, length, map, filter, Option, Some, None, slice_get}
-use Rattle.std.specs.Global.{Vec}
+use Rattle.std.specs.Prelude.{◌≡◌, ℕ, ◌<◌, true, false, cond, nat_eq, nat_lt, ◌||◌, T, List, [], ◌∷◌, ◌++◌, length, map, filter, Option, Some, None, slice_get}
 use Rattle.std.specs.List.{AllByRecursion}
 use Rattle.std.specs.Ordering.{nat_cmp}
 use Rattle.std.specs.FinMap.Entries.{is_sorted}
-use Rattle.std.proofs.Common.{get_or}
 use Rattle.fuxi_terms.specs.Counts.{count}
-use Rattle.fuxi_terms.specs.Jobs.{unit_count}
 use Rattle.fuxi_terms.specs.Keys.{Spot, spot_cmp, key_cmp}
 use Rattle.fuxi_terms.specs.Numbers.{has_number}
 use Rattle.fuxi_terms.specs.Limits.{most_machines}
-use Rattle.fuxi_terms.specs.TallyKeys.{reported_key, credited_what, greatest_grant}
+use Rattle.fuxi_terms.specs.TallyKeys.{reported_key, count_key, credited_what, greatest_grant}
 use Rattle.fuxi_terms.specs.declared.Key.{Key}
 use Rattle.schedule_unit.specs.declared.party.MachineNo.{MachineNo}
 use Rattle.written_roles.specs.MasterSteps.{count_entries}
 use Rattle.fuxi_terms.specs.NumbersSet.{AreNumbers, IsSetTo}
 use Rattle.fuxi_terms.specs.Tables.{Table}
-use Rattle.grant_table.specs.GrantTables.{TableRecord, as_known, IsSound}
+use Rattle.grant_table.specs.GrantTables.{TableRecord, IsSound}
 use Rattle.broadcast.specs.declared.grants.News.{News}
+use Rattle.broadcast.specs.TouchedNumbers.{has_place}
 use Rattle.broadcast.specs.AllShown.{App, is_job, ShowsJob, ShowsGrants}
-
--- the spot is of an admitted unit and of a machine of the cluster
-abbrev pub has_place : TableRecord → Spot → Bool
-has_place t s = nat_lt s.unit (unit_count (as_known t.jobs) s.job) && nat_lt s.machine (length t.cluster.machines)
 
 -- what the table has at these spots
 abbrev pub counts_at : TableRecord → List Spot → Table
 counts_at t spots = map (λ s. (s, count spot_cmp t.entries s)) (filter (has_place t) spots)
 
--- the same by job: a list for each number below this
-abbrev pub lists_of : List (Vec (Key × ℕ)) → List (List (Key × ℕ))
-lists_of lists = map (λ (l : Vec (Key × ℕ)). l.items) lists
-
-pub record AreByJob (touched : Table) (jobs : ℕ) (lists : List (Vec (Key × ℕ))) : Type 0 where
-  pub wide : length lists ≡ jobs
-  pub each : (a : ℕ) → a < jobs → get_or (lists_of lists) a [] ≡ count_entries a touched
-
--- the counts of each of so many jobs, where a job without a list has none
-abbrev pub AreOfJobs : Table → ℕ → List (Vec (Key × ℕ)) → Type 0
-AreOfJobs touched jobs lists = (a : ℕ) → a < jobs → get_or (lists_of lists) a [] ≡ count_entries a touched
+-- each with its job
+abbrev pub with_job : Spot × ℕ → ℕ × (Key × ℕ)
+with_job e = (e.0.job, (count_key e.0.unit e.0.machine, e.1))
 
 abbrev pub AreOf : ℕ → List (Key × ℕ) → Type 0
 AreOf what es = AllByRecursion (λ e. nat_eq e.0.what what ≡ true) es
@@ -53,6 +39,12 @@ pub record IsNews (news : News) : Type 0 where
   pub rising : T (is_sorted {X = ℕ} nat_cmp (map (λ (m : MachineNo). (m.0, 0)) news.machines.items))
   pub below : AllByRecursion (λ (m : MachineNo). m.0 < most_machines) news.machines.items
   pub given : AreNumbersOf credited_what news.credited.items
+
+-- nothing of this is of a job, and no machine is reported
+pub record IsNotOf (news : News) (a : ℕ) : Type 0 where
+  pub reported : news.reported ≡ None
+  pub admitted : is_job news.admitted a ≡ false
+  pub job : is_job news.job a ≡ false
 
 -- the machines that are set in the grants of a job: all that are reported where it was admitted, else the one that is reported now
 abbrev pub reported_now : Option MachineNo → List ℕ
@@ -96,9 +88,9 @@ pub record IsInSlot (touched : Table) (news : News) (a : ℕ) (old : App) (slots
   pub there : slice_get slots a ≡ Some slot
   pub shown : SlotIsShown news a (count_entries a touched) old slot
 
--- the applications of the first slots are, and the others are as they were
-pub record AreShown (touched : Table) (news : News) (jobs : ℕ) (old new : List (Option App)) : Type 0 where
+-- the applications of these jobs are, and the other slots are as they were
+pub record AreShown (touched : Table) (news : News) (done : List ℕ) (old new : List (Option App)) : Type 0 where
   pub wide : length new ≡ length old
   pub none : (a : ℕ) → slice_get old a ≡ Some None → slice_get new a ≡ Some None
-  pub some : (a : ℕ) (d : App) → a < jobs → slice_get old a ≡ Some (Some d) → IsInSlot touched news a d new
-  pub rest : (a : ℕ) → jobs ≤ a → slice_get new a ≡ slice_get old a
+  pub some : (a : ℕ) (d : App) → has_number a done ≡ true → slice_get old a ≡ Some (Some d) → IsInSlot touched news a d new
+  pub rest : (a : ℕ) → has_number a done ≡ false → slice_get new a ≡ slice_get old a

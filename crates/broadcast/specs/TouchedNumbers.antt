@@ -1,8 +1,6 @@
 -- The numbers of a machine's row at the spots that were touched.
-use Rattle.std.specs.Prelude.{◌≡◌, ℕ, ◌<◌, ◌≤◌, IsTrue, Bool, nat_eq, nat_lt, ◌&&◌, List, [], length, map, filter}
-use Rattle.std.specs.Global.{Vec}
+use Rattle.std.specs.Prelude.{ℕ, ◌≤◌, IsTrue, Bool, nat_eq, nat_lt, ◌&&◌, List, length, map, filter}
 use Rattle.std.specs.List.{AllByRecursion}
-use Rattle.std.proofs.Common.{get_or}
 use Rattle.fuxi_terms.specs.Counts.{count, joined}
 use Rattle.fuxi_terms.specs.Jobs.{unit_count}
 use Rattle.fuxi_terms.specs.Keys.{RowKey, row_cmp, Spot, spot_cmp}
@@ -18,6 +16,10 @@ use Rattle.broadcast.specs.Shown.{number_of}
 abbrev pub is_touched : TableRecord → ℕ → Spot → Bool
 is_touched t m s = nat_eq s.machine m && nat_lt s.unit (unit_count (as_known t.jobs) s.job)
 
+-- the spot is of an admitted unit and of a machine of the cluster
+abbrev pub has_place : TableRecord → Spot → Bool
+has_place t s = nat_lt s.unit (unit_count (as_known t.jobs) s.job) && nat_lt s.machine (length t.cluster.machines)
+
 -- the count of the table at a spot, by the key of the row
 abbrev pub number_at : TableRecord → Spot → RowKey × ℕ
 number_at t s = (spot_row_key (as_known t.jobs) s, count spot_cmp t.entries s)
@@ -26,20 +28,12 @@ number_at t s = (spot_row_key (as_known t.jobs) s, count spot_cmp t.entries s)
 abbrev pub touched_on : TableRecord → ℕ → List Spot → List (RowKey × ℕ)
 touched_on t m spots = map (number_at t) (filter (is_touched t m) spots)
 
--- a list of numbers for each machine
-abbrev pub numbers_in : Vec RowNumber → List (RowKey × ℕ)
-numbers_in v = map number_of v.items
+-- of all machines, each with its machine
+abbrev pub touched_in : TableRecord → List Spot → List (ℕ × (RowKey × ℕ))
+touched_in t spots = map (λ s. (s.machine, number_at t s)) (filter (has_place t) spots)
 
-abbrev pub numbers_of : List (Vec RowNumber) → List (List (RowKey × ℕ))
-numbers_of lists = map numbers_in lists
-
-pub record AreTouched (t : TableRecord) (spots : List Spot) (numbers : List (List (RowKey × ℕ))) : Type 0 where
-  pub wide : length numbers ≡ length t.cluster.machines
-  pub each : (m : ℕ) → m < length numbers → get_or numbers m [] ≡ touched_on t m spots
-
--- the numbers of each machine, where a machine without a list has none
-abbrev pub AreByMachine : TableRecord → List Spot → List (List (RowKey × ℕ)) → Type 0
-AreByMachine t spots numbers = (m : ℕ) → m < length t.cluster.machines → get_or numbers m [] ≡ touched_on t m spots
+abbrev pub with_key : ℕ × RowNumber → ℕ × (RowKey × ℕ)
+with_key n = (n.0, number_of n.1)
 
 -- numbers that may be set in a row: keys that rise, each within its greatest, and not too many together with those of the row
 pub record MayBeSet (row numbers : List (RowKey × ℕ)) : Type 0 where

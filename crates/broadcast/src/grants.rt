@@ -1,21 +1,26 @@
 //! Grants, by job.
 
-ghost use Rattle.std.specs.Prelude.{◌≡◌, ◌<◌, ◌^◌, ◌++◌, ◌∷◌, true, false, nat_eq, ℕ, T, IsTrue, List, [], Some, None, length, map, IfOk, OnOk};
+ghost use Rattle.std.specs.Prelude.{◌≡◌, ◌<◌, ◌^◌, ◌||◌, true, false, nat_eq, ℕ, T, List, Some, None, map, IfOk, OnOk};
 ghost use Rattle.std.specs.Ordering.{nat_cmp};
+ghost use Rattle.std.specs.List.Sorted.{IsNonDecreasingBy, IsStrictlySortedBy};
 ghost use Rattle.std.specs.FinMap.Entries.{is_sorted};
 ghost use Rattle.schedule_unit.specs.declared.party.MachineNo.{MachineNo as MachineSeen};
 ghost use Rattle.std.specs.List.{AllByRecursion};
-ghost use Rattle.std.proofs.Common.{set, get_or};
+ghost use Rattle.fuxi_terms.specs.Numbers.{has_number};
 ghost use Rattle.fuxi_terms.specs.Counts.{count};
 ghost use Rattle.fuxi_terms.specs.Keys.{key_cmp, spot_cmp};
 ghost use Rattle.fuxi_terms.specs.TallyKeys.{reported_key, count_key, greatest_grant, credited_what};
 ghost use Rattle.fuxi_terms.specs.NumbersSet.{AreNumbers};
 ghost use Rattle.grant_table.specs.GrantTables.{TableRecord};
 ghost use Rattle.broadcast.specs.AllShown.{App, spot_of, is_job, AreInOrder, GrantsAreBefore, ShowsGrants, ShowsAllGrants, HaveRoom};
-ghost use Rattle.broadcast.specs.OneJob.{has_place, counts_at, lists_of, AreByJob, AreOfJobs, AreNumbersOf, IsNews, machines_of, reported_now, reported_numbers, credited_to, numbers_of, JobIsBefore, SlotIsShown};
+ghost use Rattle.broadcast.specs.OfNumbers.{of_number};
+ghost use Rattle.broadcast.specs.TouchedNumbers.{has_place};
+ghost use Rattle.broadcast.specs.OneJob.{counts_at, with_job, IsNotOf, AreNumbersOf, IsNews, machines_of, reported_now, reported_numbers, credited_to, numbers_of, JobIsBefore, SlotIsShown};
 
 use crate::job_grants::show_grants;
 use crate::law;
+use crate::numbered::{each_once, of_number};
+use crate::spots::has_place;
 use core_side::Side;
 use fuxi_terms::limits::MOST_MACHINES;
 use fuxi_terms::tally_keys::{COUNT, REPORTED};
@@ -23,7 +28,7 @@ use fuxi_terms::{Key, OutOfMemory};
 use grant_table::{GrantTable, Pick};
 use party_ledgers::{Demand, Grants};
 use schedule_unit::{AppNo, MachineNo};
-use std::alloc::Global;
+use std::alloc::{AllocError, Global};
 
 /// What a step brings to applications beside the grants that changed.
 pub struct News {
@@ -33,7 +38,7 @@ pub struct News {
     pub admitted: Option<AppNo>,
     /// The machines that are reported, by numbers that rise, where a job was admitted.
     pub machines: Vec<MachineNo>,
-    /// The job to which something is credited.
+    /// The job of whose application something came, and to which something may be credited.
     pub job: Option<AppNo>,
     /// What is credited to it, by keys that rise.
     pub credited: Vec<(Key, u64)>,
@@ -54,7 +59,8 @@ impl Drop for News {
 
 /// Shows each application, by the number of its job, its grants: one change of them, where they are others or the job was admitted. The head is the
 /// boot that is known of it; a new boot loses what was credited. The spots are those at which grants changed since, in order; each last
-/// index is below 2^62. It costs the spots and a constant for each job.
+/// index is below 2^62. It costs the spots and a search for each
+/// job that they or the news name; where a machine is reported, for each job.
 ///
 /// Want of memory leaves some of the applications shown.
 pub fn show_all_grants(
@@ -73,11 +79,67 @@ pub fn show_all_grants(
     ensures { OnOk result ((now : List ℕ) → GrantsAreBefore table.now (map spot_of spots.now) news.now now apps.old.items → ShowsAllGrants table.now news.now now apps.old.items apps.new.items) }
 {
     let _cluster = table.cluster();
-    let counts = by_job(alloc, table, spots, apps.len())?;
-    for app in 0..apps.len() {
+    let counts = counts_at(alloc, table, spots)?;
+    let jobs = jobs_due(alloc, &counts, news, apps.len())?;
+    for job in &jobs {
+        let app = *job;
+        if app >= apps.len() {
+            continue;
+        }
         show_slot(&mut apps[app], alloc, app, &counts, news)?;
     }
     Ok(())
+}
+
+// The jobs with counts, and those of the news: of no others can the grants have changed.
+fn jobs_due(
+    alloc: Global,
+    counts: &[(usize, (Key, u64))],
+    news: &News,
+    jobs: usize,
+) -> Result<Vec<usize>, AllocError>
+    ensures rising { IfOk result (λ due. IsStrictlySortedBy nat_cmp due.items) }
+    ensures all { IfOk result (λ due. (a : ℕ) → a < jobs → has_number a due.items ≡ false → (has_number a (map (λ e. e.0) counts.now) ≡ false) × IsNotOf news.now a) }
+{
+    let named = jobs_named(alloc, news, jobs)?;
+    each_once(alloc, counts, &named)
+}
+
+// The jobs of the news: all of them where a machine is reported.
+fn jobs_named(alloc: Global, news: &News, jobs: usize) -> Result<Vec<usize>, AllocError>
+    ensures { IfOk result (λ named. (a : ℕ) → a < jobs → has_number a named.items ≡ false → IsNotOf news.now a) }
+{
+    if news.reported.is_some() {
+        return all_jobs(alloc, jobs);
+    }
+    let mut named = Vec::new(alloc);
+    put_job(&mut named, news.admitted)?;
+    put_job(&mut named, news.job)?;
+    Ok(named)
+}
+
+// The numbers of all jobs.
+fn all_jobs(alloc: Global, jobs: usize) -> Result<Vec<usize>, AllocError>
+    ensures { IfOk result (λ all. (a : ℕ) → a < jobs → has_number a all.items ≡ true) }
+{
+    let mut all = Vec::with_capacity(alloc, jobs)?;
+    for job in 0..jobs {
+        all.push(job)?;
+    }
+    Ok(all)
+}
+
+// A job more, where there is one.
+fn put_job(jobs: &mut Vec<usize>, job: Option<AppNo>) -> Result<(), AllocError>
+    ensures { OnOk result ((a : ℕ) → has_number a jobs.new.items ≡ (has_number a jobs.old.items || is_job job a)) }
+{
+    match job {
+        Some(job) => {
+            jobs.push(job.0 as usize)?;
+            Ok(())
+        }
+        None => Ok(()),
+    }
 }
 
 // Shows the application of a slot its grants, where there is one. Most slots are empty, and of those no list is asked.
@@ -85,17 +147,21 @@ fn show_slot(
     slot: &mut Option<Side<Grants, Demand>>,
     alloc: Global,
     app: usize,
-    lists: &[Vec<(Key, u64)>],
+    counts: &[(usize, (Key, u64))],
     news: &News,
 ) -> Result<(), OutOfMemory>
     requires last { (d : App) → slot.old ≡ Some d → d.outgoing.last < 2 ^ 62 }
-    requires counts { AreNumbersOf 2 (get_or (lists_of lists.now) app []) }
+    requires rising { IsNonDecreasingBy (λ e. e.0) counts.now }
+    requires counts { AreNumbersOf 2 (of_number app counts.now) }
     requires news { IsNews news.now }
     ensures none { slot.old ≡ None → slot.new ≡ None }
-    ensures some { OnOk result ((d : App) → slot.old ≡ Some d → SlotIsShown news.now app (get_or (lists_of lists.now) app []) d slot.new) }
+    ensures some { OnOk result ((d : App) → slot.old ≡ Some d → SlotIsShown news.now app (of_number app counts.now) d slot.new) }
 {
     match slot {
-        Some(side) => show_one(side, alloc, app, counts_of(lists, app), news),
+        Some(side) => {
+            let counts = of_number(alloc, counts, app)?;
+            show_one(side, alloc, app, &counts, news)
+        }
         None => Ok(()),
     }
 }
@@ -118,25 +184,8 @@ fn show_one(
     law::grants_follow_tables();
     law::grants_have_numbers();
     law::numbers_are_set();
-    if is_quiet(news, app, counts, boot, side.sent().head()) {
-        side.is_shown();
-        return Ok(());
-    }
     let numbers = numbers_of(alloc, news, app, counts)?;
     show_grants(side, alloc, boot, &numbers, is_job(news.admitted, app))
-}
-
-// Whether nothing is set in the grants of a job, which was not admitted and whose boot is the one that its grants have.
-fn is_quiet(news: &News, app: usize, counts: &[(Key, u64)], boot: u64, head: u64) -> bool
-    ensures boot { IsTrue result → boot ≡ head }
-    ensures admitted { IsTrue result → is_job news.now.admitted app ≡ false }
-    ensures numbers { IsTrue result → numbers_of news.now app counts.now ≡ [] }
-{
-    boot == head
-        && !is_job(news.admitted, app)
-        && news.reported.is_none()
-        && counts.is_empty()
-        && credited_to(news, app).is_empty()
 }
 
 // All numbers that are set in the grants of a job.
@@ -223,66 +272,21 @@ fn is_job(job: Option<AppNo>, app: usize) -> bool
     }
 }
 
-// What the table has at the spots, by job. Most steps change no grant, and make no list.
-fn by_job(
+// What the table has at the spots, each with its job. Spots of no admitted unit or of no machine are passed over.
+fn counts_at(
     alloc: Global,
     table: &GrantTable,
     spots: &[Pick],
-    jobs: usize,
-) -> Result<Vec<Vec<(Key, u64)>>, OutOfMemory>
-    ensures { IfOk result (λ lists. AreOfJobs (counts_at table.now (map spot_of spots.now)) jobs lists.items) }
+) -> Result<Vec<(usize, (Key, u64))>, AllocError>
+    ensures { IfOk result (λ counts. counts.items ≡ map with_job (counts_at table.now (map spot_of spots.now))) }
 {
-    if spots.is_empty() {
-        return Ok(Vec::new(alloc));
-    }
-    counts_by_job(alloc, table, spots, jobs)
-}
-
-// The counts of a job, none where it has no list.
-fn counts_of(lists: &[Vec<(Key, u64)>], app: usize) -> &[(Key, u64)]
-    ensures { result.now ≡ get_or (lists_of lists.now) app [] }
-{
-    match lists.get(app) {
-        Some(list) => list,
-        None => &[],
-    }
-}
-
-// What the table has at the spots, in a list for each job. Spots of other jobs are passed over.
-fn counts_by_job(
-    alloc: Global,
-    table: &GrantTable,
-    spots: &[Pick],
-    jobs: usize,
-) -> Result<Vec<Vec<(Key, u64)>>, OutOfMemory>
-    ensures { IfOk result (λ lists. AreByJob (counts_at table.now (map spot_of spots.now)) jobs lists.items) }
-{
-    let mut lists = empty_lists(alloc, jobs)?;
+    let mut counts = Vec::new(alloc);
     for spot in spots {
-        let app = spot.app.0 as usize;
-        if app < jobs && has_place(table, spot) {
-            put_count(&mut lists, app, count_at(table, spot))?;
+        if has_place(table, spot) {
+            counts.push((spot.app.0 as usize, count_at(table, spot)))?;
         }
     }
-    Ok(lists)
-}
-
-// So many lists with nothing in them.
-fn empty_lists(alloc: Global, jobs: usize) -> Result<Vec<Vec<(Key, u64)>>, OutOfMemory>
-    ensures { IfOk result (λ lists. AreByJob [] jobs lists.items) }
-{
-    let mut lists = Vec::with_capacity(alloc, jobs)?;
-    for _ in 0..jobs {
-        lists.push(Vec::new(alloc))?;
-    }
-    Ok(lists)
-}
-
-// Whether a spot is of an admitted unit and of a machine of the cluster.
-fn has_place(table: &GrantTable, spot: &Pick) -> bool
-    ensures { result ≡ has_place table.now (spot_of spot.now) }
-{
-    (spot.unit.0 as usize) < table.units(spot.app) && spot.machine.0 < table.cluster().machines()
+    Ok(counts)
 }
 
 // What the table has at a spot.
@@ -297,17 +301,4 @@ fn count_at(table: &GrantTable, spot: &Pick) -> (Key, u64)
     };
     let count = table.held_on(spot.app, spot.unit, spot.machine);
     (key, count as u64)
-}
-
-// One count more of a job.
-fn put_count(
-    lists: &mut Vec<Vec<(Key, u64)>>,
-    app: usize,
-    entry: (Key, u64),
-) -> Result<(), OutOfMemory>
-    requires { app < length lists.old.items }
-    ensures { OnOk result (lists_of lists.new.items ≡ set (lists_of lists.old.items) app (get_or (lists_of lists.old.items) app [] ++ entry ∷ [])) }
-{
-    lists[app].push(entry)?;
-    Ok(())
 }

@@ -36,7 +36,6 @@ pub fn show_grants(
     let _entries = side.sent().entries();
     let _changes = change.entries();
     if !is_due(forced, &change, side.sent().head()) {
-        side.is_shown();
         return Ok(());
     }
     side.post(alloc, change)?;

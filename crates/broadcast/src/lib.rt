@@ -6,6 +6,7 @@ mod grants;
 mod job_grants;
 pub mod law;
 mod machine_row;
+mod numbered;
 mod rows;
 mod spots;
 

@@ -50,7 +50,6 @@ pub(crate) fn show_row(
     let change = row_change(alloc, side.sent(), numbers)?;
     let _len = change.len();
     if !is_due(forced, &change) {
-        side.is_shown();
         return Ok(());
     }
     side.post(alloc, change)?;

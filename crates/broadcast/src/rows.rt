@@ -1,31 +1,34 @@
 //! Rows, by machine.
 
-ghost use Rattle.std.specs.Prelude.{◌≡◌, ◌<◌, ◌^◌, ◌++◌, ◌∷◌, [], length, map, replicate, IfOk, OnOk};
-ghost use Rattle.std.proofs.Common.{get_or, set};
+ghost use Rattle.std.specs.Prelude.{◌≡◌, ◌<◌, ◌^◌, ◌||◌, true, ℕ, [], length, map, IfOk, OnOk};
 ghost use Rattle.std.specs.List.{AllByRecursion};
-ghost use Rattle.fuxi_terms.specs.Jobs.{unit_count};
+ghost use Rattle.std.specs.List.Sorted.{IsNonDecreasingBy, IsStrictlySortedBy};
+ghost use Rattle.std.specs.Ordering.{nat_cmp};
+ghost use Rattle.fuxi_terms.specs.Numbers.{has_number};
 ghost use Rattle.fuxi_terms.specs.Keys.{row_cmp};
+ghost use Rattle.fuxi_terms.specs.NumbersSet.{numbers_set};
 ghost use Rattle.fuxi_terms.specs.Rows.{IsRow, patched_row};
 ghost use Rattle.written_net.specs.Ledgers.{row_ledger};
 ghost use Rattle.core_side.specs.Bodies.{report_of};
-ghost use Rattle.grant_table.specs.GrantTables.{as_known};
-ghost use Rattle.fuxi_terms.specs.NumbersSet.{numbers_set};
 ghost use Rattle.broadcast.specs.Shown.{number_of, Shows};
 ghost use Rattle.broadcast.specs.AllShown.{Down, spot_of, is_machine, AreInOrder, RowsAreBefore, ShowsRows};
-ghost use Rattle.broadcast.specs.TouchedNumbers.{number_at, numbers_of, AreTouched, AreByMachine, MayBeSet};
+ghost use Rattle.broadcast.specs.OfNumbers.{of_number};
+ghost use Rattle.broadcast.specs.TouchedNumbers.{has_place, number_at, with_key, touched_in, touched_on, MayBeSet};
 
 use crate::law;
 use crate::machine_row::{RowNumber, show_row};
+use crate::numbered::{each_once, of_number};
+use crate::spots::has_place;
 use core_side::Side;
 use fuxi_terms::OutOfMemory;
 use grant_table::{GrantTable, Pick};
 use party_ledgers::{JoinLedger, RowLedger};
 use schedule_unit::MachineNo;
-use std::alloc::Global;
+use std::alloc::{AllocError, Global};
 
 /// Shows each agent, by the number of its machine, what the table grants there: one change of its row, where the row is another one or
-/// is forced. The spots are those at which grants changed since, in order; each last index is below 2^62. It costs the spots and a
-/// constant for each machine.
+/// is forced. The spots are those at which grants changed since, in order; each last index is below 2^62. It costs the spots
+/// and a search for each machine that they name.
 ///
 /// Want of memory leaves some of the agents shown.
 pub fn show_all_rows(
@@ -44,32 +47,47 @@ pub fn show_all_rows(
     let _cluster = table.cluster();
     law::rows_follow_tables();
     let numbers = by_machine(alloc, table, spots)?;
-    for at in 0..sides.len() {
-        show_one(
-            &mut sides[at],
-            alloc,
-            numbers_at(&numbers, at),
-            is_machine(forced, at),
-        )?;
+    let machines = machines_due(alloc, &numbers, forced)?;
+    for machine in &machines {
+        let at = *machine;
+        if at >= sides.len() {
+            continue;
+        }
+        show_one(&mut sides[at], alloc, at, &numbers, forced)?;
     }
     Ok(())
 }
 
-// Shows an agent its row with these numbers. Where there are none and it is not forced, the row stays.
+// Shows an agent its row with the numbers of its machine.
 fn show_one(
     side: &mut Side<RowLedger, JoinLedger>,
     alloc: Global,
-    numbers: &[RowNumber],
-    forced: bool,
+    at: usize,
+    numbers: &[(usize, RowNumber)],
+    forced: Option<MachineNo>,
 ) -> Result<(), OutOfMemory>
     requires last { side.old.outgoing.last < 2 ^ 62 }
-    requires numbers { MayBeSet side.old.outgoing.present (map number_of numbers.now) }
-    ensures { OnOk result (Shows [] patched_row IsRow row_ledger report_of forced (numbers_set row_cmp side.old.outgoing.present (map number_of numbers.now)) side.old side.new) }
+    requires rising { IsNonDecreasingBy (λ e. e.0) numbers.now }
+    requires set { MayBeSet side.old.outgoing.present (map number_of (of_number at numbers.now)) }
+    ensures { OnOk result (Shows [] patched_row IsRow row_ledger report_of (is_machine forced at) (numbers_set row_cmp side.old.outgoing.present (map number_of (of_number at numbers.now))) side.old side.new) }
 {
-    if numbers.is_empty() && !forced {
-        return Ok(());
+    let row = of_number(alloc, numbers, at)?;
+    show_row(side, alloc, &row, is_machine(forced, at))
+}
+
+// The machines with numbers, and one that is forced: no other row can have changed.
+fn machines_due(
+    alloc: Global,
+    numbers: &[(usize, RowNumber)],
+    forced: Option<MachineNo>,
+) -> Result<Vec<usize>, AllocError>
+    ensures rising { IfOk result (λ due. IsStrictlySortedBy nat_cmp due.items) }
+    ensures all { IfOk result (λ due. (m : ℕ) → has_number m due.items ≡ (has_number m (map (λ e. e.0) numbers.now) || is_machine forced m)) }
+{
+    match forced {
+        Some(machine) => each_once(alloc, numbers, &[machine.0 as usize]),
+        None => each_once(alloc, numbers, &[]),
     }
-    show_row(side, alloc, numbers, forced)
 }
 
 // Whether it is the machine with this number.
@@ -82,66 +100,41 @@ fn is_machine(machine: Option<MachineNo>, at: usize) -> bool
     }
 }
 
-// What the table has at the spots, by machine. Most steps change no grant, and make no list.
+// What the table has at the spots, in the order of machines.
 fn by_machine(
     alloc: Global,
     table: &GrantTable,
     spots: &[Pick],
-) -> Result<Vec<Vec<RowNumber>>, OutOfMemory>
-    ensures { IfOk result (λ lists. AreByMachine table.now (map spot_of spots.now) (numbers_of lists.items)) }
+) -> Result<Vec<(usize, RowNumber)>, AllocError>
+    ensures rising { IfOk result (λ numbers. IsNonDecreasingBy (λ e. e.0) numbers.items) }
+    ensures each { IfOk result (λ numbers. (m : ℕ) → m < length table.now.cluster.machines → map number_of (of_number m numbers.items) ≡ touched_on table.now m (map spot_of spots.now)) }
 {
-    if spots.is_empty() {
-        return Ok(Vec::new(alloc));
-    }
-    touched(alloc, table, spots)
+    let mut numbers = touched(alloc, table, spots)?;
+    numbers.sort_by_key(|number| number.0)?;
+    Ok(numbers)
 }
 
-// The numbers of a machine, none where it has no list.
-fn numbers_at(lists: &[Vec<RowNumber>], machine: usize) -> &[RowNumber]
-    ensures { map number_of result.now ≡ get_or (numbers_of lists.now) machine [] }
-{
-    match lists.get(machine) {
-        Some(list) => list,
-        None => &[],
-    }
-}
-
-// What the table has at the spots, in a list for each machine. Spots of no admitted unit or of no machine are passed over: the table has
-// nothing there.
+// What the table has at the spots, each with its machine. Spots of no admitted unit or of no machine are passed over: the table has nothing
+// there.
 fn touched(
     alloc: Global,
     table: &GrantTable,
     spots: &[Pick],
-) -> Result<Vec<Vec<RowNumber>>, OutOfMemory>
-    ensures { IfOk result (λ lists. AreTouched table.now (map spot_of spots.now) (numbers_of lists.items)) }
+) -> Result<Vec<(usize, RowNumber)>, AllocError>
+    ensures { IfOk result (λ numbers. map with_key numbers.items ≡ touched_in table.now (map spot_of spots.now)) }
 {
-    let machines = table.cluster().machines() as usize;
-    let mut lists = empty_lists(alloc, machines)?;
+    let mut numbers = Vec::new(alloc);
     for spot in spots {
-        let machine = spot.machine.0 as usize;
-        if machine >= machines || spot.unit.0 as usize >= table.units(spot.app) {
-            continue;
+        if has_place(table, spot) {
+            numbers.push((spot.machine.0 as usize, number_at(table, spot)))?;
         }
-        put_number(&mut lists, machine, number_at(table, spot))?;
     }
-    Ok(lists)
-}
-
-// So many lists with nothing in them.
-fn empty_lists(alloc: Global, machines: usize) -> Result<Vec<Vec<RowNumber>>, OutOfMemory>
-    ensures { IfOk result (λ lists. numbers_of lists.items ≡ replicate machines []) }
-{
-    let mut lists = Vec::with_capacity(alloc, machines)?;
-    for _ in 0..machines {
-        lists.push(Vec::new(alloc))?;
-    }
-    Ok(lists)
+    Ok(numbers)
 }
 
 // What the table has at a spot.
 fn number_at(table: &GrantTable, spot: &Pick) -> RowNumber
-    requires unit { spot.now.unit.0 < unit_count (as_known table.now.jobs) spot.now.app.0 }
-    requires machine { spot.now.machine.0 < length table.now.cluster.machines }
+    requires { has_place table.now (spot_of spot.now) ≡ true }
     ensures { number_of result ≡ number_at table.now (spot_of spot.now) }
 {
     RowNumber {
@@ -150,17 +143,4 @@ fn number_at(table: &GrantTable, spot: &Pick) -> RowNumber
         size: *table.size(spot.app, spot.unit),
         count: table.held_on(spot.app, spot.unit, spot.machine),
     }
-}
-
-// One number more of a machine.
-fn put_number(
-    lists: &mut Vec<Vec<RowNumber>>,
-    machine: usize,
-    number: RowNumber,
-) -> Result<(), OutOfMemory>
-    requires { machine < length lists.old.items }
-    ensures { OnOk result (numbers_of lists.new.items ≡ set (numbers_of lists.old.items) machine (get_or (numbers_of lists.old.items) machine [] ++ number_of number ∷ [])) }
-{
-    lists[machine].push(number)?;
-    Ok(())
 }

@@ -5,9 +5,10 @@ ghost use Rattle.std.specs.BTreeSet as set;
 ghost use Rattle.fuxi_terms.specs.Keys.{Spot};
 ghost use Rattle.broadcast.specs.PickOrders.{place_cmp, place_of, pick_of};
 ghost use Rattle.broadcast.specs.AllShown.{spot_of, has_spot, AreInOrder};
+ghost use Rattle.broadcast.specs.TouchedNumbers.{has_place};
 
 use fuxi_terms::OutOfMemory;
-use grant_table::Pick;
+use grant_table::{GrantTable, Pick};
 use schedule_unit::{AppNo, MachineNo, UnitNo};
 use std::alloc::{AllocError, Global};
 use std::collections::BTreeSet;
@@ -20,6 +21,13 @@ pub fn in_order(alloc: Global, spots: &[Pick]) -> Result<Vec<Pick>, OutOfMemory>
     let places = places_of(alloc, spots)?;
     let ordered = picks_of(alloc, places)?;
     Ok(ordered)
+}
+
+// Whether a spot is of an admitted unit and of a machine of the cluster.
+pub(crate) fn has_place(table: &GrantTable, spot: &Pick) -> bool
+    ensures { result ≡ has_place table.now (spot_of spot.now) }
+{
+    (spot.unit.0 as usize) < table.units(spot.app) && spot.machine.0 < table.cluster().machines()
 }
 
 // The spots as a set, whose order is that of the tuple's parts.

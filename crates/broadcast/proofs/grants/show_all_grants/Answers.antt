@@ -1,34 +1,82 @@
-use Rattle.std.proofs.Common.{◌<◌, [], length, map, get_or, refl, sym, subst, arith}
+use Rattle.std.proofs.Common.{◌≡◌, ℕ, ◌+◌, ◌<◌, List, Some, nat_eq, length, map, take, get_or, sym, ◌∙◌, ap, subst, arith}
+use Rattle.std.specs.List.Sorted.{IsNonDecreasingBy, IsStrictlySortedBy}
+use Rattle.std.specs.Ordering.{nat_cmp}
+use Rattle.std.proofs.lemmas.List.{take_all}
+use Rattle.std.proofs.lemmas.List.Folds.{list_any_more}
+use Rattle.fuxi_terms.specs.Numbers.{has_number}
+use Rattle.fuxi_terms.specs.declared.Key.{Key}
 use Rattle.broadcast.specs.AllShown.{spot_of}
-use Rattle.broadcast.specs.OneJob.{counts_at, lists_of, AreNumbersOf, SlotIsShown}
+use Rattle.broadcast.specs.OfNumbers.{of_number}
+use Rattle.broadcast.specs.OneJob.{counts_at, AreNumbersOf, SlotIsShown}
 use Rattle.broadcast.proofs.InOrder.{counts_in_order}
+use Rattle.broadcast.proofs.OfNumbersLemmas.{none_of, not_before}
 use Rattle.broadcast.proofs.Touched.{touched_sorted, touched_small}
-use Rattle.broadcast.proofs.Slots.{slot_counts, in_slot, none_shown, one_shown, all_shown}
+use Rattle.broadcast.proofs.Slots.{none_shown, turn, shown_over, one_shown, counts_of, jobs_rise, all_shown}
 use Rattle.broadcast.proofs.grants.show_all_grants.Goals as goal
 
-pub loop-app-init : goal.loop-app-init
-loop-app-init c = none_shown (counts_at c.args.table.now (map spot_of c.args.spots.now)) c.args.news.now c.args.apps.now.items
+pub loop-job-init : goal.loop-job-init
+loop-job-init c = none_shown (counts_at c.args.table.now (map spot_of c.args.spots.now)) c.args.news.now c.args.apps.now.items
+
+pub loop-job-preserved-then-app-len : goal.loop-job-preserved-then-app-len
+loop-job-preserved-then-app-len c =
+    let items = c.deref-job-items.result.now in
+    let k = c.loop-job.job-index in
+    shown_over (counts_at c.args.table.now (map spot_of c.args.spots.now)) c.args.news.now c.args.apps.now.items c.loop-job.apps.items (take k items) (take (k + 1) items) (get_or items k 0) (λ a. list_any_more (nat_eq a) items k 0 c.loop-job-test.true) c.loop-job.invariant
+    (omega (arith, c.if-app-len.true, c.len-in-loop-job.ensures, c.loop-job.invariant.wide))
+
+pub show_slot-requires-clause-last : goal.show_slot-requires-clause-last
+show_slot-requires-clause-last c d is =
+    let t = c.args.table.now in
+    let ss = map spot_of c.args.spots.now in
+    let items = c.deref-job-items.result.now in
+    let k = c.loop-job.job-index in
+    let i = get_or items k 0 in
+    let rising = subst (IsStrictlySortedBy nat_cmp) (sym c.deref-job-items.ensures.value) c.in_ok-jobs.ensures.rising in
+    let lt : i < length c.loop-job.apps.items = omega (arith, c.if-app-len.false, c.len-in-loop-job.ensures) in
+    let was = turn (counts_at t ss) c.args.news.now (take k items) i c.args.apps.now.items c.loop-job.apps.items c.index_mut.result.now c.loop-job.invariant (not_before items k 0 rising c.loop-job-test.true) lt c.index_mut.ensures.value in
+    c.requires.room i d (was ∙ ap (λ o. Some o) is)
+
+pub show_slot-requires-clause-rising : goal.show_slot-requires-clause-rising
+show_slot-requires-clause-rising c =
+    let t = c.args.table.now in
+    let ss = map spot_of c.args.spots.now in
+    subst (λ (es : List (ℕ × (Key × ℕ))). IsNonDecreasingBy (λ e. e.0) es) (sym (c.deref-in-loop-job.ensures.value ∙ c.in_ok-counts.ensures)) (jobs_rise (counts_at t ss) (touched_sorted t ss c.requires.order))
 
 pub show_slot-requires-clause-counts : goal.show_slot-requires-clause-counts
 show_slot-requires-clause-counts c =
     let t = c.args.table.now in
     let ss = map spot_of c.args.spots.now in
-    let lt : c.loop-app.app < c.len.result = omega arith in
-    let is = slot_counts (counts_at t ss) c.len.result c.in_ok-counts.counts c.deref.result.now c.loop-app.app (get_or (lists_of c.deref.result.now) c.loop-app.app []) c.in_ok-counts.ensures lt c.deref.ensures.value refl in
-    subst (AreNumbersOf 2) (sym is) (counts_in_order c.loop-app.app (counts_at t ss) (touched_sorted t ss c.requires.order) (touched_small t c.cluster-cluster.ensures.sound ss))
+    let items = c.deref-job-items.result.now in
+    let k = c.loop-job.job-index in
+    let i = get_or items k 0 in
+    let are = ap (of_number i) (c.deref-in-loop-job.ensures.value ∙ c.in_ok-counts.ensures) ∙ counts_of i (counts_at t ss) in
+    subst (AreNumbersOf 2) (sym are) (counts_in_order i (counts_at t ss) (touched_sorted t ss c.requires.order) (touched_small t c.cluster-cluster.ensures.sound ss))
 
-pub loop-app-preserved : goal.loop-app-preserved
-loop-app-preserved c =
-    let touched = counts_at c.args.table.now (map spot_of c.args.spots.now) in
-    let a = c.loop-app.app in
-    let apps = c.loop-app.apps.items in
-    let wide = c.loop-app.invariant.wide in
-    let lt : a < length apps = omega arith in
-    let few : a < c.len.result = omega arith in
-    let is = slot_counts touched c.len.result c.in_ok-counts.counts c.deref.result.now a (get_or (lists_of c.deref.result.now) a []) c.in_ok-counts.ensures few c.deref.ensures.value refl in
-    one_shown touched c.args.news.now a c.args.apps.now.items apps c.index_mut.result.now c.show_slot.new.slot c.loop-app.invariant lt (in_slot apps a c.index_mut.result.now lt c.index_mut.ensures.value)
+pub loop-job-preserved : goal.loop-job-preserved
+loop-job-preserved c =
+    let t = c.args.table.now in
+    let ss = map spot_of c.args.spots.now in
+    let items = c.deref-job-items.result.now in
+    let k = c.loop-job.job-index in
+    let i = get_or items k 0 in
+    let rising = subst (IsStrictlySortedBy nat_cmp) (sym c.deref-job-items.ensures.value) c.in_ok-jobs.ensures.rising in
+    let lt : i < length c.loop-job.apps.items = omega (arith, c.if-app-len.false, c.len-in-loop-job.ensures) in
+    let was = turn (counts_at t ss) c.args.news.now (take k items) i c.args.apps.now.items c.loop-job.apps.items c.index_mut.result.now c.loop-job.invariant (not_before items k 0 rising c.loop-job-test.true) lt c.index_mut.ensures.value in
+    let are = ap (of_number i) (c.deref-in-loop-job.ensures.value ∙ c.in_ok-counts.ensures) ∙ counts_of i (counts_at t ss) in
+    one_shown (counts_at t ss) c.args.news.now c.args.apps.now.items c.loop-job.apps.items (take k items) (take (k + 1) items) i (λ a. list_any_more (nat_eq a) items k 0 c.loop-job-test.true) c.loop-job.invariant c.index_mut.result.now c.show_slot.new.slot lt was
     c.in_ok-show_slot.ensures.none
-    (λ d e. subst (λ cs. SlotIsShown c.args.news.now a cs d c.show_slot.new.slot) is (c.in_ok-show_slot.ensures.some d e))
+    (λ d e. subst (λ cs. SlotIsShown c.args.news.now i cs d c.show_slot.new.slot) are (c.in_ok-show_slot.ensures.some d e))
 
 pub returns : goal.returns
-returns c now g = all_shown c.args.table.now (map spot_of c.args.spots.now) c.args.news.now c.loop-app.app c.args.apps.now.items c.loop-app.apps.items c.cluster-cluster.ensures.sound (omega arith) c.loop-app.invariant now g
+returns c now g =
+    let t = c.args.table.now in
+    let ss = map spot_of c.args.spots.now in
+    let items = c.deref-job-items.result.now in
+    let k = c.loop-job.job-index in
+    let due : take k items ≡ c.in_ok-jobs.jobs.items = take_all k items (omega (arith, c.loop-job-test.false)) ∙ c.deref-job-items.ensures.value in
+    all_shown t ss c.args.news.now (take k items) c.args.apps.now.items c.loop-job.apps.items c.cluster-cluster.ensures.sound c.loop-job.invariant
+    (λ a lt left.
+    let p = c.in_ok-jobs.ensures.all a (omega (arith, lt, c.len.ensures)) (ap (has_number a) (sym due) ∙ left) in
+    let none = none_of a c.in_ok-counts.counts.items (ap (λ (es : List (ℕ × (Key × ℕ))). has_number a (map (λ e. e.0) es)) (sym c.deref.ensures.value) ∙ p.0) in
+    (sym (ap (of_number a) c.in_ok-counts.ensures ∙ counts_of a (counts_at t ss)) ∙ none, p.1))
+    now g

@@ -30,7 +30,7 @@ returns-then-not-is_due-clause-shows c =
     let stays : Ok (record { head = boot; entries = staying credited_what t boot }) ≡ Ok (grants_set t boot ns) = leads in
     let there : record { head = boot; entries = staying credited_what t boot } ≡ grants_set t boot ns = cc in
     let kept : t ≡ record { head = boot; entries = staying credited_what t boot } = kept_as t boot head in
-    shown_kept empty_tally (patched_tally Below TooGreat greatest_grant credited_what) (IsTally greatest_grant) tally_of tally_of c.args.forced (grants_set t boot ns) old none.0 (kept ∙ there) c.is_shown.ensures
+    shown_kept empty_tally (patched_tally Below TooGreat greatest_grant credited_what) (IsTally greatest_grant) tally_of tally_of c.args.forced (grants_set t boot ns) old none.0 (kept ∙ there)
 
 pub post-requires-clause-leads : goal.post-requires-clause-leads
 post-requires-clause-leads c =

@@ -22,7 +22,7 @@ returns-then-not-is_due-clause-shows c =
     let none = not_due_alone c.args.forced c.in_ok-change.change (sym c.is_due.ensures ∙ c.if-not-is_due.true) in
     let leads : Ok row ≡ Ok (numbers_set row_cmp row ns) = ap (patched_row row) (sym none.1 ∙ change) ∙ row_is_set row ns is_row c.requires.numbers c.requires.together in
     let same : row ≡ numbers_set row_cmp row ns = cc in
-    shown_kept [] patched_row IsRow row_ledger report_of c.args.forced (numbers_set row_cmp row ns) old none.0 same c.is_shown.ensures
+    shown_kept [] patched_row IsRow row_ledger report_of c.args.forced (numbers_set row_cmp row ns) old none.0 same
 
 pub post-requires-clause-leads : goal.post-requires-clause-leads
 post-requires-clause-leads c =

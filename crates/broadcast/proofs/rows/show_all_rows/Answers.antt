@@ -1,45 +1,85 @@
-use Rattle.std.proofs.Common.{◌≡◌, ◌<◌, List, [], length, get_or, map, refl, ◌∙◌, ap, subst, arith}
-use Rattle.std.specs.Global.{Vec}
-use Rattle.fuxi_terms.specs.NumbersSet.{numbers_set}
-use Rattle.broadcast.specs.Shown.{number_of, Shows}
-use Rattle.fuxi_terms.specs.Keys.{row_cmp}
+use Rattle.std.proofs.Common.{◌≡◌, ℕ, ◌+◌, ◌<◌, ◌^◌, List, [], nat_eq, length, get_or, map, take, sym, ◌∙◌, ap, subst, arith}
+use Rattle.std.specs.List.Sorted.{IsStrictlySortedBy}
+use Rattle.std.specs.Ordering.{nat_cmp}
+use Rattle.std.proofs.lemmas.List.{take_all}
+use Rattle.std.proofs.lemmas.List.Folds.{list_any_more}
+use Rattle.std.proofs.lemmas.Option.{slice_get_within}
+use Rattle.fuxi_terms.proofs.Lists.{all_at}
+use Rattle.fuxi_terms.specs.Numbers.{has_number}
+use Rattle.fuxi_terms.proofs.Booleans.{both_false}
 use Rattle.fuxi_terms.specs.Rows.{IsRow, patched_row}
 use Rattle.written_net.specs.Ledgers.{row_ledger}
 use Rattle.core_side.specs.Bodies.{report_of}
-use Rattle.broadcast.specs.AllShown.{spot_of, is_machine}
-use Rattle.broadcast.specs.TouchedNumbers.{numbers_of, touched_on}
+use Rattle.broadcast.specs.Shown.{number_of, Shows}
+use Rattle.broadcast.specs.AllShown.{Down, spot_of, is_machine}
+use Rattle.broadcast.specs.OfNumbers.{of_number}
 use Rattle.broadcast.specs.declared.machine_row.RowNumber.{RowNumber}
-use Rattle.broadcast.proofs.ShownRows.{shown_next, shown_all, turn, set_at, row_at}
+use Rattle.broadcast.proofs.OfNumbersLemmas.{none_of, not_before}
+use Rattle.broadcast.proofs.ShownRows.{none_shown, turn, shown_over, shown_next, set_at, row_at, all_shown}
 use Rattle.broadcast.proofs.rows.show_all_rows.Goals as goal
 
-pub show_one-requires-clause-numbers : goal.show_one-requires-clause-numbers
-show_one-requires-clause-numbers c =
-    let t = c.args.table.now in
-    let ss = map spot_of c.args.spots.now in
-    let old = c.args.sides.now.items in
-    let now = c.loop-at.sides.items in
-    let i = c.loop-at.at in
-    let d = c.index_mut.result.now in
-    let lt : i < length old = omega (arith, c.loop-at-test.true, c.len-at-end.ensures) in
-    let ns = map number_of c.numbers_at.result.now in
-    let are : ns ≡ touched_on t i ss = c.numbers_at.ensures ∙ ap (λ (l : List (Vec RowNumber)). get_or (numbers_of l) i []) c.deref.ensures.value ∙ c.in_ok-numbers.ensures i (let wide = c.requires.wide in omega (arith, lt, wide)) in
-    set_at t c.cluster-cluster.ensures.sound ss c.requires.order old now c.requires.before i d ns (turn t c.args.forced old now i d c.loop-at.invariant lt c.index_mut.ensures.value) are
+pub loop-machine-init : goal.loop-machine-init
+loop-machine-init c = none_shown c.args.table.now c.args.forced c.args.sides.now.items
 
-pub loop-at-preserved : goal.loop-at-preserved
-loop-at-preserved c =
+pub loop-machine-preserved-then-at-len : goal.loop-machine-preserved-then-at-len
+loop-machine-preserved-then-at-len c =
+    let items = c.deref-machine-items.result.now in
+    let k = c.loop-machine.machine-index in
+    shown_over c.args.table.now c.args.forced c.args.sides.now.items c.loop-machine.sides.items (take k items) (take (k + 1) items) (get_or items k 0) (λ m. list_any_more (nat_eq m) items k 0 c.loop-machine-test.true) c.loop-machine.invariant
+    (omega (arith, c.if-at-len.true, c.len.ensures, c.loop-machine.invariant.wide))
+
+pub show_one-requires-clause-last : goal.show_one-requires-clause-last
+show_one-requires-clause-last c =
+    let items = c.deref-machine-items.result.now in
+    let k = c.loop-machine.machine-index in
+    let rising = subst (IsStrictlySortedBy nat_cmp) (sym c.deref-machine-items.ensures.value) c.in_ok-machines.ensures.rising in
+    let this = turn c.args.table.now c.args.forced c.args.sides.now.items c.loop-machine.sides.items (take k items) (get_or items k 0) c.index_mut.result.now c.loop-machine.invariant (not_before items k 0 rising c.loop-machine-test.true) (omega (arith, c.if-at-len.false, c.len.ensures)) c.index_mut.ensures.value in
+    all_at (λ (d : Down). d.outgoing.last < 2 ^ 62) c.args.sides.now.items (get_or items k 0) c.index_mut.result.now c.requires.last this.1
+
+pub show_one-requires-clause-set : goal.show_one-requires-clause-set
+show_one-requires-clause-set c =
+    let t = c.args.table.now in
+    let old = c.args.sides.now.items in
+    let items = c.deref-machine-items.result.now in
+    let k = c.loop-machine.machine-index in
+    let i = get_or items k 0 in
+    let d = c.index_mut.result.now in
+    let rising = subst (IsStrictlySortedBy nat_cmp) (sym c.deref-machine-items.ensures.value) c.in_ok-machines.ensures.rising in
+    let this = turn t c.args.forced old c.loop-machine.sides.items (take k items) i d c.loop-machine.invariant (not_before items k 0 rising c.loop-machine-test.true) (omega (arith, c.if-at-len.false, c.len.ensures)) c.index_mut.ensures.value in
+    let are = ap (λ (ns : List (ℕ × RowNumber)). map number_of (of_number i ns)) c.deref-in-loop-machine.ensures.value ∙ c.in_ok-numbers.ensures.each i (omega (arith, slice_get_within old i d this.1, c.requires.wide)) in
+    set_at t c.cluster-cluster.ensures.sound (map spot_of c.args.spots.now) c.requires.order old c.requires.before i d this.1 (map number_of (of_number i c.deref-in-loop-machine.result.now)) are
+
+pub loop-machine-preserved : goal.loop-machine-preserved
+loop-machine-preserved c =
     let t = c.args.table.now in
     let ss = map spot_of c.args.spots.now in
     let old = c.args.sides.now.items in
-    let now = c.loop-at.sides.items in
-    let i = c.loop-at.at in
+    let now = c.loop-machine.sides.items in
+    let items = c.deref-machine-items.result.now in
+    let k = c.loop-machine.machine-index in
+    let i = get_or items k 0 in
     let d = c.index_mut.result.now in
-    let lt : i < length old = omega (arith, c.loop-at-test.true, c.len-at-end.ensures) in
-    let ns = map number_of c.numbers_at.result.now in
-    let are : ns ≡ touched_on t i ss = c.numbers_at.ensures ∙ ap (λ (l : List (Vec RowNumber)). get_or (numbers_of l) i []) c.deref.ensures.value ∙ c.in_ok-numbers.ensures i (let wide = c.requires.wide in omega (arith, lt, wide)) in
-    let this = turn t c.args.forced old now i d c.loop-at.invariant lt c.index_mut.ensures.value in
-    let row_is = row_at t c.cluster-cluster.ensures.sound ss c.requires.order old now c.requires.before i d ns this are c.rows_follow_tables.ensures in
-    let shows : Shows [] patched_row IsRow row_ledger report_of (is_machine c.args.forced i) (numbers_set row_cmp d.outgoing.present ns) d c.show_one.new.side = subst (λ b. Shows [] patched_row IsRow row_ledger report_of b (numbers_set row_cmp d.outgoing.present ns) d c.show_one.new.side) c.is_machine.ensures c.in_ok-show_one.ensures in
-    shown_next t c.args.forced old i now _ d c.show_one.new.side (numbers_set row_cmp d.outgoing.present ns) this.here refl shows row_is c.loop-at.invariant
+    let e = c.show_one.new.side in
+    let rising = subst (IsStrictlySortedBy nat_cmp) (sym c.deref-machine-items.ensures.value) c.in_ok-machines.ensures.rising in
+    let lt : i < length now = omega (arith, c.if-at-len.false, c.len.ensures) in
+    let this = turn t c.args.forced old now (take k items) i d c.loop-machine.invariant (not_before items k 0 rising c.loop-machine-test.true) lt c.index_mut.ensures.value in
+    let ns = map number_of (of_number i c.deref-in-loop-machine.result.now) in
+    let are = ap (λ (ns : List (ℕ × RowNumber)). map number_of (of_number i ns)) c.deref-in-loop-machine.ensures.value ∙ c.in_ok-numbers.ensures.each i (omega (arith, slice_get_within old i d this.1, c.requires.wide)) in
+    let row = row_at t c.cluster-cluster.ensures.sound ss c.requires.order old c.requires.before i d this.1 ns are c.rows_follow_tables.ensures in
+    shown_next t c.args.forced old now (take k items) (take (k + 1) items) i (λ m. list_any_more (nat_eq m) items k 0 c.loop-machine-test.true) c.loop-machine.invariant d e this.0 this.1
+    (subst (λ row. Shows [] patched_row IsRow row_ledger report_of (is_machine c.args.forced i) row d e) row c.in_ok-show_one.ensures)
 
 pub returns : goal.returns
-returns c = shown_all c.args.table.now c.args.forced c.args.sides.now.items c.loop-at.at c.loop-at.sides.items (omega (arith, c.loop-at-test.false, c.len-at-end.ensures)) c.loop-at.invariant
+returns c =
+    let t = c.args.table.now in
+    let ss = map spot_of c.args.spots.now in
+    let items = c.deref-machine-items.result.now in
+    let k = c.loop-machine.machine-index in
+    let numbers = c.in_ok-numbers.numbers.items in
+    let due : take k items ≡ c.in_ok-machines.machines.items = take_all k items (omega (arith, c.loop-machine-test.false)) ∙ c.deref-machine-items.ensures.value in
+    all_shown t c.cluster-cluster.ensures.sound ss c.requires.order c.args.forced c.args.sides.now.items c.loop-machine.sides.items c.requires.before c.rows_follow_tables.ensures (take k items)
+    (λ m lt left.
+    let p = both_false _ _ (sym (c.in_ok-machines.ensures.all m) ∙ sym (ap (has_number m) due) ∙ left) in
+    let none = none_of m numbers (ap (λ (ns : List (ℕ × RowNumber)). has_number m (map (λ e. e.0) ns)) (sym c.deref.ensures.value) ∙ p.0) in
+    (ap (map number_of) (sym none) ∙ c.in_ok-numbers.ensures.each m (let wide = c.requires.wide in omega (arith, lt, wide)), p.1))
+    c.loop-machine.invariant

@@ -1,0 +1,20 @@
+use Rattle.std.proofs.Common.{eqb, sym, ◌∙◌, ap, arith, rules}
+use Rattle.std.specs.Prelude.{nat_eq}
+use Rattle.std.specs.List.{list_any}
+use Rattle.std.proofs.lemmas.Bool.Decides.{nat_tests}
+use Rattle.std.proofs.lemmas.Cmp.{nat_cmp_total}
+use Rattle.std.proofs.lemmas.List.Filters.{dedup_is}
+use Rattle.std.proofs.lemmas.List.Kept.{IsStrictlySortedBy-dedup}
+use Rattle.std.proofs.lemmas.List.Sorted.{list_any-IsPermutation}
+use Rattle.broadcast.proofs.OfNumbersLemmas.{has_once}
+use Rattle.broadcast.proofs.numbered.each_once.Goals as goal
+
+pub returns-clause-rising : goal.returns-clause-rising
+returns-clause-rising g c = rw (dedup_is _ _ _ c.dedup.ensures.filtered) (IsStrictlySortedBy-dedup nat_cmp_total (λ x y. grind (arith, nat_tests)) _ c.sort_unstable.ensures.sorted)
+
+pub returns-clause-same : goal.returns-clause-same
+returns-clause-same g c n =
+    ap (list_any (nat_eq n)) (dedup_is eqb _ _ c.dedup.ensures.filtered)
+    ∙ has_once n _
+    ∙ sym (list_any-IsPermutation (nat_eq n) _ _ c.sort_unstable.ensures.permutation)
+    ∙ ap (list_any (nat_eq n)) (search rules)
