@@ -1,17 +1,19 @@
 -- Entries of one number, runs of them, and numbers that stand once.
-use Rattle.std.proofs.Common.{◌≡◌, ℕ, zero, suc, ◌+◌, ◌<◌, ◌≤◌, Bool, true, false, cond, nat_eq, eqb, List, [], ◌∷◌, ◌++◌, length, get_or, take, drop, map, slice_get, set, Some, refl, sym, ◌∙◌, ap, arith}
+use Rattle.std.proofs.Common.{◌≡◌, ℕ, zero, suc, ◌+◌, ◌<◌, ◌≤◌, Bool, true, false, cond, nat_eq, List, [], ◌∷◌, ◌++◌, length, length-set, get_or, take, drop, map, slice_get, set, Some, refl, sym, ◌∙◌, ap, subst, arith}
 use Rattle.std.specs.Prelude.{◌||◌, filter}
+use Rattle.std.specs.Option.{unwrap_or}
 use Rattle.std.specs.List.{AllByRecursion, list_any, dedup, dedup_from}
 use Rattle.std.specs.List.Sorted.{IsPermutation, IsStableByKey, IsStrictlySortedBy, ties}
 use Rattle.std.specs.Ordering.{nat_cmp, is_lt}
 use Rattle.std.specs.declared.cmp.Ordering.TheVariants.{Less}
 use Rattle.std.proofs.lemmas.Bool.Decides.{nat_tests}
 use Rattle.std.proofs.lemmas.List.Elements.{filter_agree}
-use Rattle.std.proofs.lemmas.List.Folds.{list_any-append}
+use Rattle.std.proofs.lemmas.List.Folds.{list_any-append, list_any_more}
 use Rattle.std.proofs.lemmas.List.Sorted.{length_permutation}
+use Rattle.std.proofs.lemmas.Option.{slice_get_read, slice_get_within}
 use Rattle.fuxi_terms.specs.Numbers.{has_number}
-use Rattle.fuxi_terms.proofs.Booleans.{both_false, eq_turned, or_false, or_left, or_right}
-use Rattle.broadcast.specs.OfNumbers.{of_number}
+use Rattle.fuxi_terms.proofs.Booleans.{both_false, eq_turned, number_is, or_false, or_left, or_right}
+use Rattle.broadcast.specs.OfNumbers.{of_number, AreReached}
 
 -- what stands before the run, and behind it, does not pass
 module _ {X : Type 0} (p : X → Bool) where
@@ -26,21 +28,23 @@ module _ {X : Type 0} (p : X → Bool) where
   run_passes (suc i) [] h g = refl
   run_passes (suc i) (x ∷ xs) h g = ap (λ ys. x ∷ ys) (run_passes i xs (λ k d lt. h (suc k) d (omega (arith, lt))) (λ k d le lt. g (suc k) d (omega (arith, le)) (omega (arith, lt)))) ∙ sym (ap (λ b. cond b (x ∷ filter p xs) (filter p xs)) (h 0 x (omega arith)))
 
--- a number is among those that stand once where it is among all
-once_from : (n k : ℕ) (xs : List ℕ) → list_any (nat_eq n) (dedup_from eqb k xs) ≡ (nat_eq n k || list_any (nat_eq n) xs)
-once_from n k [] = refl
-once_from n k (x ∷ xs) = by (nat_eq n k) (eqb x k) refl refl (once_from n k xs) (once_from n x xs)
-  where
-    by : (b c : Bool) → nat_eq n k ≡ b → eqb x k ≡ c → list_any (nat_eq n) (dedup_from eqb k xs) ≡ (b || list_any (nat_eq n) xs) → list_any (nat_eq n) (dedup_from eqb x xs) ≡ (nat_eq n x || list_any (nat_eq n) xs)
-        → list_any (nat_eq n) (cond c (dedup_from eqb k xs) (k ∷ dedup_from eqb x xs)) ≡ (b || (nat_eq n x || list_any (nat_eq n) xs))
-    by true true is same rest other = rest
-    by false true is same rest other = let differs : nat_eq n x ≡ false = grind (arith, nat_tests, is, same) in rest ∙ sym (ap (λ b. b || list_any (nat_eq n) xs) differs)
-    by true false is same rest other = ap (λ b. b || list_any (nat_eq n) (dedup_from eqb x xs)) is
-    by false false is same rest other = ap (λ b. b || list_any (nat_eq n) (dedup_from eqb x xs)) is ∙ other
+-- what stands once passes a test where all does
+module _ {X : Type 0} (E : X → X → Bool) (p : X → Bool) (alike : (x k : X) → E x k ≡ true → p x ≡ p k) where
+  once_from : (k : X) (xs : List X) → list_any p (dedup_from E k xs) ≡ (p k || list_any p xs)
+  once_from k [] = refl
+  once_from k (x ∷ xs) = by (E x k) refl (once_from k xs) (once_from x xs)
+    where
+      twice : (b c : Bool) → (b || c) ≡ (b || (b || c))
+      twice true c = refl
+      twice false c = refl
 
-pub has_once : (n : ℕ) (xs : List ℕ) → list_any (nat_eq n) (dedup eqb xs) ≡ list_any (nat_eq n) xs
-has_once n [] = refl
-has_once n (x ∷ xs) = once_from n x xs
+      by : (c : Bool) → E x k ≡ c → list_any p (dedup_from E k xs) ≡ (p k || list_any p xs) → list_any p (dedup_from E x xs) ≡ (p x || list_any p xs) → list_any p (cond c (dedup_from E k xs) (k ∷ dedup_from E x xs)) ≡ (p k || (p x || list_any p xs))
+      by true same rest other = rest ∙ twice (p k) (list_any p xs) ∙ ap (λ b. p k || (b || list_any p xs)) (sym (alike x k same))
+      by false same rest other = ap (λ b. p k || b) other
+
+  pub any_once : (xs : List X) → list_any p (dedup E xs) ≡ list_any p xs
+  any_once [] = refl
+  any_once (x ∷ xs) = once_from x xs
 
 -- ---- the entries of one number
 pub of_mapped : {Z X : Type 0} (n : ℕ) (number : Z → ℕ) (f : Z → X) (zs : List Z) → of_number n (map (λ z. (number z, f z)) zs) ≡ map f (filter (λ z. nat_eq (number z) n) zs)
@@ -74,14 +78,6 @@ has_more ns n h a lt = list_any-append (nat_eq a) ns (n ∷ []) ∙ by (nat_eq a
     by true is = or_right (has_number a ns) true refl
     by false is = or_left (has_number a ns) false (h a (grind (arith, nat_tests, is, lt)))
 
--- with one number more
-module _ (done after : List ℕ) (i : ℕ) (more : (m : ℕ) → has_number m after ≡ (has_number m done || nat_eq m i)) where
-  pub was_done : (m : ℕ) → nat_eq m i ≡ false → has_number m after ≡ true → has_number m done ≡ true
-  was_done m differs is = sym (or_false (has_number m done)) ∙ ap (λ b. has_number m done || b) (sym differs) ∙ sym (more m) ∙ is
-
-  pub not_done : (m : ℕ) → has_number m after ≡ false → (has_number m done ≡ false) × (nat_eq m i ≡ false)
-  not_done m is = both_false (has_number m done) (nat_eq m i) (sym (more m) ∙ is)
-
 -- ---- a number of those that rise is not among those before it
 pub not_before : (ns : List ℕ) (i d : ℕ) → IsStrictlySortedBy nat_cmp ns → i < length ns → has_number (get_or ns i d) (take i ns) ≡ false
 unfolding IsStrictlySortedBy
@@ -95,14 +91,65 @@ not_before (n ∷ ns) (suc i) d h lt = ap (λ b. b || has_number (get_or ns i d)
     above (m ∷ ms) (suc i) lt h = above ms i (omega (arith, lt)) h.1
 
 -- ---- one place that is written
-pub got_same : {X : Type 0} (xs : List X) (i : ℕ) (y : X) → i < length xs → slice_get (set xs i y) i ≡ Some y
+got_same : {X : Type 0} (xs : List X) (i : ℕ) (y : X) → i < length xs → slice_get (set xs i y) i ≡ Some y
 got_same [] i y lt = absurd (omega (arith, lt))
 got_same (x ∷ xs) zero y lt = refl
 got_same (x ∷ xs) (suc i) y lt = got_same xs i y (omega (arith, lt))
 
-pub got_other : {X : Type 0} (xs : List X) (i j : ℕ) (y : X) → nat_eq j i ≡ false → slice_get (set xs i y) j ≡ slice_get xs j
+got_other : {X : Type 0} (xs : List X) (i j : ℕ) (y : X) → nat_eq j i ≡ false → slice_get (set xs i y) j ≡ slice_get xs j
 got_other [] i j y h = refl
 got_other (x ∷ xs) zero zero y h = cc
 got_other (x ∷ xs) zero (suc j) y h = refl
 got_other (x ∷ xs) (suc i) zero y h = refl
 got_other (x ∷ xs) (suc i) (suc j) y h = got_other xs i j y (let n : nat_eq (suc j) (suc i) ≡ false = h in grind (arith, nat_tests, n))
+
+-- ---- a walk over peers
+module _ {A : Type 0} (P : ℕ → A → A → Type 0) where
+  pub none_reached : (old : List A) → AreReached P [] old old
+  none_reached old = record { wide = refl; each = λ n x y h. cc; rest = λ n _. refl }
+
+  -- the next peer
+  module _ (ns : List ℕ) (k : ℕ) (next : k < length ns) (old new : List A) (h : AreReached P (take k ns) old new) where
+    abbrev i : ℕ
+    i = get_or ns k 0
+
+    abbrev after : List ℕ
+    after = take (k + 1) ns
+
+    more : (n : ℕ) → has_number n after ≡ (has_number n (take k ns) || nat_eq n i)
+    more n = list_any_more (nat_eq n) ns k 0 next
+
+    pub turn : (x : A) → IsStrictlySortedBy nat_cmp ns → i < length new → x ≡ get_or new i x → slice_get old i ≡ Some x
+    turn x rising lt is = sym (h.rest i (not_before ns k 0 rising next)) ∙ slice_get_read new (length new) i x refl lt is
+
+    was_done : (n : ℕ) → nat_eq n i ≡ false → has_number n after ≡ true → has_number n (take k ns) ≡ true
+    was_done n differs is = sym (or_false (has_number n (take k ns))) ∙ ap (λ b. has_number n (take k ns) || b) (sym differs) ∙ sym (more n) ∙ is
+
+    not_done : (n : ℕ) → has_number n after ≡ false → (has_number n (take k ns) ≡ false) × (nat_eq n i ≡ false)
+    not_done n is = both_false (has_number n (take k ns)) (nat_eq n i) (sym (more n) ∙ is)
+
+    -- that is none
+    pub reached_over : length old ≤ i → AreReached P after old new
+    reached_over le = record {
+      wide = h.wide;
+      each = λ n x y is was there. elim (nat_eq n i) as (λ b. nat_eq n i ≡ b → P n x y) [
+        | true ↦ λ same. let lt = slice_get_within old n x was in let here = number_is n i same in absurd (omega (arith, lt, here, le))
+        | false ↦ λ differs. h.each n x y (was_done n differs is) was there
+      ] refl;
+      rest = λ n is. h.rest n (not_done n is).0;
+    }
+
+    -- that becomes another
+    pub reached_next : (d e : A) → i < length new → slice_get old i ≡ Some d → P i d e → AreReached P after old (set new i e)
+    reached_next d e lt was_here shows = record {
+      wide = length-set new i e ∙ h.wide;
+      each = λ n x y is was there. elim (nat_eq n i) as (λ b. nat_eq n i ≡ b → P n x y) [
+        | true ↦ λ same.
+            let at_i = number_is n i same in
+            let first : Some d ≡ Some x = sym was_here ∙ ap (slice_get old) (sym at_i) ∙ was in
+            let second : Some e ≡ Some y = sym (got_same new i e lt) ∙ ap (slice_get (set new i e)) (sym at_i) ∙ there in
+            subst (λ k. P k x y) (sym at_i) (subst (λ y. P i x y) (ap (λ o. unwrap_or o e) second) (subst (λ x. P i x e) (ap (λ o. unwrap_or o d) first) shows))
+        | false ↦ λ differs. h.each n x y (was_done n differs is) was (sym (got_other new i n e differs) ∙ there)
+      ] refl;
+      rest = λ n is. got_other new i n e (not_done n is).1 ∙ h.rest n (not_done n is).0;
+    }

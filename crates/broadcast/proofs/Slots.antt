@@ -1,5 +1,5 @@
 -- The applications of all slots, one after another.
-use Rattle.std.proofs.Common.{◌≡◌, ℕ, zero, suc, ◌<◌, ◌≤◌, Bool, true, false, cond, nat_eq, nat_lt, List, [], ◌∷◌, ◌++◌, length, map, filter, get_or, set, Option, Some, None, slice_get, refl, sym, ◌∙◌, ap, subst, arith, append-nil, length-set, inl, inr}
+use Rattle.std.proofs.Common.{◌≡◌, ℕ, zero, suc, ◌<◌, ◌≤◌, Bool, true, false, cond, nat_eq, nat_lt, List, [], ◌∷◌, ◌++◌, length, map, filter, get_or, Option, Some, None, slice_get, refl, sym, ◌∙◌, ap, subst, arith, append-nil, inl, inr}
 use Rattle.std.specs.Prelude.{T, ◌||◌}
 use Rattle.std.specs.Option.{is_some, unwrap_or}
 use Rattle.std.specs.Ordering.{eq_by_cmp, is_lt, nat_cmp, ordering_then}
@@ -10,7 +10,7 @@ use Rattle.std.specs.List.Sorted.{IsNonDecreasingBy}
 use Rattle.std.specs.FinMap.Entries.{below_all, is_sorted, find, where_key}
 use Rattle.std.proofs.lemmas.Bool.{cases_lt}
 use Rattle.std.proofs.lemmas.Bool.Decides.{nat_tests}
-use Rattle.std.proofs.lemmas.Option.{slice_get_read, slice_get_within}
+use Rattle.std.proofs.lemmas.Option.{slice_get-get_or, slice_get_within}
 use Rattle.fuxi_terms.specs.Counts.{count}
 use Rattle.fuxi_terms.specs.Keys.{Spot, spot_cmp, key_cmp}
 use Rattle.fuxi_terms.specs.Limits.{greatest_count}
@@ -21,7 +21,7 @@ use Rattle.fuxi_terms.specs.Tallies.{empty_tally, patched_tally}
 use Rattle.fuxi_terms.specs.TallyKeys.{reported_key, count_key, greatest_grant, credited_what}
 use Rattle.fuxi_terms.specs.declared.Key.{Key}
 use Rattle.fuxi_terms.specs.declared.answers.LedgerFault.TheVariants.{Below, TooGreat}
-use Rattle.fuxi_terms.proofs.Booleans.{number_is, nat_itself, or_false}
+use Rattle.fuxi_terms.proofs.Booleans.{nat_itself, or_false}
 use Rattle.fuxi_terms.proofs.CountsLemmas.{both_true, tied, same_counts, counts-where_key, count_where}
 use Rattle.fuxi_terms.proofs.KeyOrders.{spot_total, same_spot}
 use Rattle.fuxi_terms.proofs.NumbersLemmas.{among, with_is}
@@ -32,61 +32,15 @@ use Rattle.broadcast.specs.Projections.{grant_entries}
 use Rattle.schedule_unit.specs.declared.party.MachineNo.{MachineNo}
 use Rattle.grant_table.specs.GrantTables.{TableRecord, IsSound}
 use Rattle.broadcast.specs.AllShown.{App, is_job, credited_in, credited_after, grants_after, with_reported, GrantsAreBefore, ShowsGrants, IsShownAnew, ShowsAllGrants}
-use Rattle.broadcast.specs.OfNumbers.{of_number}
-use Rattle.broadcast.specs.OneJob.{counts_at, with_job, reported_now, machines_of, JobIsBefore, SlotIsShown, IsInSlot, IsNotOf, AreShown}
+use Rattle.broadcast.specs.OfNumbers.{of_number, AreReached}
+use Rattle.broadcast.specs.OneJob.{counts_at, under_job, reported_now, machines_of, JobIsBefore, IsSlotShown, IsNotOf}
 use Rattle.broadcast.specs.declared.grants.News.{News}
-use Rattle.broadcast.proofs.OfNumbersLemmas.{of_mapped, was_done, not_done, got_same, got_other}
+use Rattle.broadcast.proofs.OfNumbersLemmas.{of_mapped}
 use Rattle.broadcast.proofs.ShownLemmas.{shown_kept}
 use Rattle.broadcast.proofs.Touched.{touched_follow}
 
--- one slot after another
-pub none_shown : (touched : Table) (news : News) (apps : List (Option App)) → AreShown touched news [] apps apps
-none_shown touched news apps = record { wide = refl; none = λ a e. e; some = λ a d is. cc; rest = λ a _. refl }
-
--- the next slot
-pub turn : (touched : Table) (news : News) (done : List ℕ) (i : ℕ) (old new : List (Option App)) (was : Option App) → AreShown touched news done old new → has_number i done ≡ false → i < length new → was ≡ get_or new i was → slice_get old i ≡ Some was
-turn touched news done i old new was h left lt is = sym (h.rest i left) ∙ slice_get_read new (length new) i was refl lt is
-
-module _ (touched : Table) (news : News) (old new : List (Option App)) (done after : List ℕ) (i : ℕ) (more : (a : ℕ) → has_number a after ≡ (has_number a done || nat_eq a i)) (h : AreShown touched news done old new) where
-  -- that is none
-  pub shown_over : length old ≤ i → AreShown touched news after old new
-  shown_over le = record {
-    wide = h.wide;
-    none = h.none;
-    some = λ a d is e. elim (nat_eq a i) as (λ b. nat_eq a i ≡ b → IsInSlot touched news a d new) [
-      | true ↦ λ same. let lt = slice_get_within old a (Some d) e in let here = number_is a i same in absurd (omega (arith, lt, here, le))
-      | false ↦ λ differs. h.some a d (was_done done after i more a differs is) e
-    ] refl;
-    rest = λ a is. h.rest a (not_done done after i more a is).0;
-  }
-
-  -- whose application is shown its grants
-  pub one_shown : (was slot : Option App) → i < length new → slice_get old i ≡ Some was → (was ≡ None → slot ≡ None) → ((d : App) → was ≡ Some d → SlotIsShown news i (count_entries i touched) d slot) → AreShown touched news after old (set new i slot)
-  one_shown was slot lt was_old none some = record {
-    wide = length-set new i slot ∙ h.wide;
-    none = λ a e. no_app a (nat_eq a i) refl e;
-    some = λ a d is e. an_app a d (nat_eq a i) refl is e;
-    rest = λ a is. got_other new i a slot (not_done done after i more a is).1 ∙ h.rest a (not_done done after i more a is).0;
-  }
-    where
-      no_app : (a : ℕ) (b : Bool) → nat_eq a i ≡ b → slice_get old a ≡ Some None → slice_get (set new i slot) a ≡ Some None
-      no_app a true t e =
-          let same : i ≡ a = sym (number_is a i t) in
-          let here : Some was ≡ Some None = sym was_old ∙ ap (slice_get old) same ∙ e in
-          ap (slice_get (set new i slot)) (sym same) ∙ got_same new i slot lt ∙ ap (λ s. Some s) (none cc)
-      no_app a false t e = got_other new i a slot t ∙ h.none a e
-
-      an_app : (a : ℕ) (d : App) (b : Bool) → nat_eq a i ≡ b → has_number a after ≡ true → slice_get old a ≡ Some (Some d) → IsInSlot touched news a d (set new i slot)
-      an_app a d true t is e =
-          let same : i ≡ a = sym (number_is a i t) in
-          let here : Some was ≡ Some (Some d) = sym was_old ∙ ap (slice_get old) same ∙ e in
-          subst (λ k. IsInSlot touched news k d (set new i slot)) same (record { slot = slot; there = got_same new i slot lt; shown = some d cc })
-      an_app a d false t is e =
-          let before = h.some a d (was_done done after i more a t is) e in
-          record { slot = before.slot; there = got_other new i a slot t ∙ before.there; shown = before.shown }
-
 -- the counts of a job among those of all
-pub counts_of : (a : ℕ) (touched : Table) → of_number a (map with_job touched) ≡ count_entries a touched
+pub counts_of : (a : ℕ) (touched : Table) → of_number a (map under_job touched) ≡ count_entries a touched
 counts_of a touched = of_mapped a (λ (e : Spot × ℕ). e.0.job) (λ (e : Spot × ℕ). (count_key e.0.unit e.0.machine, e.1)) touched
 
 -- which stand in the order of jobs
@@ -96,12 +50,12 @@ job_le s x lt = elim (cases_lt x.job s.job) [
   | inr le ↦ le
 ]
 
-pub jobs_rise : (es : Table) → T (is_sorted spot_cmp es) → IsNonDecreasingBy (λ e. e.0) (map with_job es)
+pub jobs_rise : (es : Table) → T (is_sorted spot_cmp es) → IsNonDecreasingBy (λ e. e.0) (map under_job es)
 jobs_rise [] h i j d le lt = absurd (omega (arith, lt))
 jobs_rise (e ∷ es) h zero zero d le lt = omega arith
 jobs_rise (e ∷ es) h zero (suc j) d le lt = above es j (both_true (below_all spot_cmp e.0 es) (is_sorted spot_cmp es) h).0 (omega (arith, lt))
   where
-    above : (es : Table) (j : ℕ) → T (below_all spot_cmp e.0 es) → j < length (map with_job es) → e.0.job ≤ (get_or (map with_job es) j d).0
+    above : (es : Table) (j : ℕ) → T (below_all spot_cmp e.0 es) → j < length (map under_job es) → e.0.job ≤ (get_or (map under_job es) j d).0
     above [] j h lt = absurd (omega (arith, lt))
     above (x ∷ es) zero h lt = job_le e.0 x.0 (both_true (is_lt (spot_cmp e.0 x.0)) (below_all spot_cmp e.0 es) h).0
     above (x ∷ es) (suc j) h lt = above es j (both_true (is_lt (spot_cmp e.0 x.0)) (below_all spot_cmp e.0 es) h).1 (omega (arith, lt))
@@ -194,17 +148,23 @@ module _ (t : TableRecord) (sound : IsSound t) (ss : List Spot) (news : News) (n
           λ i. record { head = boot i; entries = (entries ∙ (λ j. grant_entries a (machines j) (g.before) (credited j)) ∙ ap (λ es. map (λ m. (reported_key m, 1)) now ++ (es ++ credited_after news a d)) counts) i }
 
 -- all are shown: those that were not looked at have what they are to have
-pub all_shown : (t : TableRecord) (ss : List Spot) (news : News) (due : List ℕ) (old new : List (Option App)) → IsSound t → AreShown (counts_at t ss) news due old new
+pub all_shown : (t : TableRecord) (ss : List Spot) (news : News) (due : List ℕ) (old new : List (Option App)) → IsSound t → AreReached (IsSlotShown (counts_at t ss) news) due old new
     → ((a : ℕ) → a < length old → has_number a due ≡ false → (count_entries a (counts_at t ss) ≡ []) × IsNotOf news a) → (now : List ℕ) → GrantsAreBefore t ss news now old → ShowsAllGrants t news now old new
 all_shown t ss news due old new sound h rest now g = record {
   wide = h.wide;
-  none = h.none;
+  none = λ a e. elim (has_number a due) as (λ b. has_number a due ≡ b → slice_get new a ≡ Some None) [
+    | true ↦ λ is. there a None e ∙ ap (λ o. Some o) ((h.each a None (get_or new a None) is e (there a None e)).none refl)
+    | false ↦ λ is. h.rest a is ∙ e
+  ] refl;
   some = λ a d e. elim (has_number a due) as (λ b. has_number a due ≡ b → IsShownAnew t news now a d new) [
     | true ↦ λ is.
-        let s = h.some a d is e in
-        record { new = s.shown.new; there = s.there ∙ ap (λ o. Some o) s.shown.there; shows = s.shown.shows t now (job_is_before t sound ss news now old g a d e) }
+        let s = (h.each a (Some d) (get_or new a None) is e (there a (Some d) e)).some d refl in
+        record { new = s.new; there = there a (Some d) e ∙ ap (λ o. Some o) s.there; shows = s.shows t now (job_is_before t sound ss news now old g a d e) }
     | false ↦ λ is.
         let q = rest a (slice_get_within old a (Some d) e) is in
         record { new = d; there = h.rest a is ∙ e; shows = quiet t sound ss news now old g a d e q.0 q.1 }
   ] refl;
 }
+  where
+    there : (a : ℕ) (o : Option App) → slice_get old a ≡ Some o → slice_get new a ≡ Some (get_or new a None)
+    there a o e = slice_get-get_or new a None (let wide = h.wide in let lt = slice_get_within old a o e in omega (arith, wide, lt))

@@ -1,6 +1,5 @@
 pub mod Shown
 pub mod Projections
-pub mod PickOrders
 pub mod AllShown
 pub mod OfNumbers
 pub mod TouchedNumbers

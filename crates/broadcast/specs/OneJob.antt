@@ -1,5 +1,5 @@
 -- What is set in the grants of one job: machines that are reported, the counts at the spots that were touched, and what is credited.
-use Rattle.std.specs.Prelude.{◌≡◌, ℕ, ◌<◌, true, false, cond, nat_eq, nat_lt, ◌||◌, T, List, [], ◌∷◌, ◌++◌, length, map, filter, Option, Some, None, slice_get}
+use Rattle.std.specs.Prelude.{◌≡◌, ℕ, ◌<◌, true, false, cond, nat_eq, nat_lt, ◌||◌, T, List, [], ◌∷◌, ◌++◌, map, filter, Option, Some, None}
 use Rattle.std.specs.List.{AllByRecursion}
 use Rattle.std.specs.Ordering.{nat_cmp}
 use Rattle.std.specs.FinMap.Entries.{is_sorted}
@@ -23,8 +23,8 @@ abbrev pub counts_at : TableRecord → List Spot → Table
 counts_at t spots = map (λ s. (s, count spot_cmp t.entries s)) (filter (has_place t) spots)
 
 -- each with its job
-abbrev pub with_job : Spot × ℕ → ℕ × (Key × ℕ)
-with_job e = (e.0.job, (count_key e.0.unit e.0.machine, e.1))
+abbrev pub under_job : Spot × ℕ → ℕ × (Key × ℕ)
+under_job e = (e.0.job, (count_key e.0.unit e.0.machine, e.1))
 
 abbrev pub AreOf : ℕ → List (Key × ℕ) → Type 0
 AreOf what es = AllByRecursion (λ e. nat_eq e.0.what what ≡ true) es
@@ -83,14 +83,7 @@ pub record SlotIsShown (news : News) (a : ℕ) (counts : List (Key × ℕ)) (old
   pub there : slot ≡ Some new
   pub shows : (t : TableRecord) (now : List ℕ) → JobIsBefore t news now a counts old → ShowsGrants t news now a old new
 
-pub record IsInSlot (touched : Table) (news : News) (a : ℕ) (old : App) (slots : List (Option App)) : Type 0 where
-  pub slot : Option App
-  pub there : slice_get slots a ≡ Some slot
-  pub shown : SlotIsShown news a (count_entries a touched) old slot
-
--- the applications of these jobs are, and the other slots are as they were
-pub record AreShown (touched : Table) (news : News) (done : List ℕ) (old new : List (Option App)) : Type 0 where
-  pub wide : length new ≡ length old
-  pub none : (a : ℕ) → slice_get old a ≡ Some None → slice_get new a ≡ Some None
-  pub some : (a : ℕ) (d : App) → has_number a done ≡ true → slice_get old a ≡ Some (Some d) → IsInSlot touched news a d new
-  pub rest : (a : ℕ) → has_number a done ≡ false → slice_get new a ≡ slice_get old a
+-- an empty slot stays empty, and the application of another is shown what the table has at these spots
+pub record IsSlotShown (touched : Table) (news : News) (a : ℕ) (was slot : Option App) : Type 0 where
+  pub none : was ≡ None → slot ≡ None
+  pub some : (d : App) → was ≡ Some d → SlotIsShown news a (count_entries a touched) d slot

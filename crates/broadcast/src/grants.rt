@@ -15,7 +15,7 @@ ghost use Rattle.grant_table.specs.GrantTables.{TableRecord};
 ghost use Rattle.broadcast.specs.AllShown.{App, spot_of, is_job, AreInOrder, GrantsAreBefore, ShowsGrants, ShowsAllGrants, HaveRoom};
 ghost use Rattle.broadcast.specs.OfNumbers.{of_number};
 ghost use Rattle.broadcast.specs.TouchedNumbers.{has_place};
-ghost use Rattle.broadcast.specs.OneJob.{counts_at, with_job, IsNotOf, AreNumbersOf, IsNews, machines_of, reported_now, reported_numbers, credited_to, numbers_of, JobIsBefore, SlotIsShown};
+ghost use Rattle.broadcast.specs.OneJob.{counts_at, under_job, IsNotOf, AreNumbersOf, IsNews, machines_of, reported_now, reported_numbers, credited_to, numbers_of, JobIsBefore, SlotIsShown};
 
 use crate::job_grants::show_grants;
 use crate::law;
@@ -59,8 +59,7 @@ impl Drop for News {
 
 /// Shows each application, by the number of its job, its grants: one change of them, where they are others or the job was admitted. The head is the
 /// boot that is known of it; a new boot loses what was credited. The spots are those at which grants changed since, in order; each last
-/// index is below 2^62. It costs the spots and a search for each
-/// job that they or the news name; where a machine is reported, for each job.
+/// index is below 2^62. It costs the spots and a search for each job that they or the news name; where a machine is reported, for each job.
 ///
 /// Want of memory leaves some of the applications shown.
 pub fn show_all_grants(
@@ -142,7 +141,7 @@ fn put_job(jobs: &mut Vec<usize>, job: Option<AppNo>) -> Result<(), AllocError>
     }
 }
 
-// Shows the application of a slot its grants, where there is one. Most slots are empty, and of those no list is asked.
+// Shows the application of a slot its grants, where there is one.
 fn show_slot(
     slot: &mut Option<Side<Grants, Demand>>,
     alloc: Global,
@@ -278,7 +277,7 @@ fn counts_at(
     table: &GrantTable,
     spots: &[Pick],
 ) -> Result<Vec<(usize, (Key, u64))>, AllocError>
-    ensures { IfOk result (λ counts. counts.items ≡ map with_job (counts_at table.now (map spot_of spots.now))) }
+    ensures { IfOk result (λ counts. counts.items ≡ map under_job (counts_at table.now (map spot_of spots.now))) }
 {
     let mut counts = Vec::new(alloc);
     for spot in spots {

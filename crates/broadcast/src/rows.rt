@@ -27,8 +27,8 @@ use schedule_unit::MachineNo;
 use std::alloc::{AllocError, Global};
 
 /// Shows each agent, by the number of its machine, what the table grants there: one change of its row, where the row is another one or
-/// is forced. The spots are those at which grants changed since, in order; each last index is below 2^62. It costs the spots
-/// and a search for each machine that they name.
+/// is forced. The spots are those at which grants changed since, in order; each last index is below 2^62. It costs the spots and a
+/// search for each machine that they name.
 ///
 /// Want of memory leaves some of the agents shown.
 pub fn show_all_rows(

@@ -1,27 +1,26 @@
-use Rattle.std.proofs.Common.{◌≡◌, ℕ, ◌+◌, ◌<◌, List, Some, nat_eq, length, map, take, get_or, sym, ◌∙◌, ap, subst, arith}
+use Rattle.std.proofs.Common.{◌≡◌, ℕ, ◌<◌, List, Some, length, map, take, get_or, sym, ◌∙◌, ap, subst, arith}
 use Rattle.std.specs.List.Sorted.{IsNonDecreasingBy, IsStrictlySortedBy}
 use Rattle.std.specs.Ordering.{nat_cmp}
 use Rattle.std.proofs.lemmas.List.{take_all}
-use Rattle.std.proofs.lemmas.List.Folds.{list_any_more}
 use Rattle.fuxi_terms.specs.Numbers.{has_number}
 use Rattle.fuxi_terms.specs.declared.Key.{Key}
 use Rattle.broadcast.specs.AllShown.{spot_of}
 use Rattle.broadcast.specs.OfNumbers.{of_number}
-use Rattle.broadcast.specs.OneJob.{counts_at, AreNumbersOf, SlotIsShown}
+use Rattle.broadcast.specs.OneJob.{counts_at, AreNumbersOf, SlotIsShown, IsSlotShown}
 use Rattle.broadcast.proofs.InOrder.{counts_in_order}
-use Rattle.broadcast.proofs.OfNumbersLemmas.{none_of, not_before}
+use Rattle.broadcast.proofs.OfNumbersLemmas.{none_of, none_reached, turn, reached_over, reached_next}
 use Rattle.broadcast.proofs.Touched.{touched_sorted, touched_small}
-use Rattle.broadcast.proofs.Slots.{none_shown, turn, shown_over, one_shown, counts_of, jobs_rise, all_shown}
+use Rattle.broadcast.proofs.Slots.{counts_of, jobs_rise, all_shown}
 use Rattle.broadcast.proofs.grants.show_all_grants.Goals as goal
 
 pub loop-job-init : goal.loop-job-init
-loop-job-init c = none_shown (counts_at c.args.table.now (map spot_of c.args.spots.now)) c.args.news.now c.args.apps.now.items
+loop-job-init c = none_reached (IsSlotShown (counts_at c.args.table.now (map spot_of c.args.spots.now)) c.args.news.now) c.args.apps.now.items
 
 pub loop-job-preserved-then-app-len : goal.loop-job-preserved-then-app-len
 loop-job-preserved-then-app-len c =
     let items = c.deref-job-items.result.now in
     let k = c.loop-job.job-index in
-    shown_over (counts_at c.args.table.now (map spot_of c.args.spots.now)) c.args.news.now c.args.apps.now.items c.loop-job.apps.items (take k items) (take (k + 1) items) (get_or items k 0) (λ a. list_any_more (nat_eq a) items k 0 c.loop-job-test.true) c.loop-job.invariant
+    reached_over (IsSlotShown (counts_at c.args.table.now (map spot_of c.args.spots.now)) c.args.news.now) items k c.loop-job-test.true c.args.apps.now.items c.loop-job.apps.items c.loop-job.invariant
     (omega (arith, c.if-app-len.true, c.len-in-loop-job.ensures, c.loop-job.invariant.wide))
 
 pub show_slot-requires-clause-last : goal.show_slot-requires-clause-last
@@ -33,7 +32,7 @@ show_slot-requires-clause-last c d is =
     let i = get_or items k 0 in
     let rising = subst (IsStrictlySortedBy nat_cmp) (sym c.deref-job-items.ensures.value) c.in_ok-jobs.ensures.rising in
     let lt : i < length c.loop-job.apps.items = omega (arith, c.if-app-len.false, c.len-in-loop-job.ensures) in
-    let was = turn (counts_at t ss) c.args.news.now (take k items) i c.args.apps.now.items c.loop-job.apps.items c.index_mut.result.now c.loop-job.invariant (not_before items k 0 rising c.loop-job-test.true) lt c.index_mut.ensures.value in
+    let was = turn (IsSlotShown (counts_at t ss) c.args.news.now) items k c.loop-job-test.true c.args.apps.now.items c.loop-job.apps.items c.loop-job.invariant c.index_mut.result.now rising lt c.index_mut.ensures.value in
     c.requires.room i d (was ∙ ap (λ o. Some o) is)
 
 pub show_slot-requires-clause-rising : goal.show_slot-requires-clause-rising
@@ -61,11 +60,10 @@ loop-job-preserved c =
     let i = get_or items k 0 in
     let rising = subst (IsStrictlySortedBy nat_cmp) (sym c.deref-job-items.ensures.value) c.in_ok-jobs.ensures.rising in
     let lt : i < length c.loop-job.apps.items = omega (arith, c.if-app-len.false, c.len-in-loop-job.ensures) in
-    let was = turn (counts_at t ss) c.args.news.now (take k items) i c.args.apps.now.items c.loop-job.apps.items c.index_mut.result.now c.loop-job.invariant (not_before items k 0 rising c.loop-job-test.true) lt c.index_mut.ensures.value in
+    let was = turn (IsSlotShown (counts_at t ss) c.args.news.now) items k c.loop-job-test.true c.args.apps.now.items c.loop-job.apps.items c.loop-job.invariant c.index_mut.result.now rising lt c.index_mut.ensures.value in
     let are = ap (of_number i) (c.deref-in-loop-job.ensures.value ∙ c.in_ok-counts.ensures) ∙ counts_of i (counts_at t ss) in
-    one_shown (counts_at t ss) c.args.news.now c.args.apps.now.items c.loop-job.apps.items (take k items) (take (k + 1) items) i (λ a. list_any_more (nat_eq a) items k 0 c.loop-job-test.true) c.loop-job.invariant c.index_mut.result.now c.show_slot.new.slot lt was
-    c.in_ok-show_slot.ensures.none
-    (λ d e. subst (λ cs. SlotIsShown c.args.news.now i cs d c.show_slot.new.slot) are (c.in_ok-show_slot.ensures.some d e))
+    reached_next (IsSlotShown (counts_at t ss) c.args.news.now) items k c.loop-job-test.true c.args.apps.now.items c.loop-job.apps.items c.loop-job.invariant c.index_mut.result.now c.show_slot.new.slot lt was
+    (record { none = c.in_ok-show_slot.ensures.none; some = λ d e. subst (λ cs. SlotIsShown c.args.news.now i cs d c.show_slot.new.slot) are (c.in_ok-show_slot.ensures.some d e) })
 
 pub returns : goal.returns
 returns c now g =

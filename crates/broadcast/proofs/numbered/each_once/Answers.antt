@@ -6,7 +6,8 @@ use Rattle.std.proofs.lemmas.Cmp.{nat_cmp_total}
 use Rattle.std.proofs.lemmas.List.Filters.{dedup_is}
 use Rattle.std.proofs.lemmas.List.Kept.{IsStrictlySortedBy-dedup}
 use Rattle.std.proofs.lemmas.List.Sorted.{list_any-IsPermutation}
-use Rattle.broadcast.proofs.OfNumbersLemmas.{has_once}
+use Rattle.fuxi_terms.proofs.Booleans.{number_is}
+use Rattle.broadcast.proofs.OfNumbersLemmas.{any_once}
 use Rattle.broadcast.proofs.numbered.each_once.Goals as goal
 
 pub returns-clause-rising : goal.returns-clause-rising
@@ -15,6 +16,6 @@ returns-clause-rising g c = rw (dedup_is _ _ _ c.dedup.ensures.filtered) (IsStri
 pub returns-clause-same : goal.returns-clause-same
 returns-clause-same g c n =
     ap (list_any (nat_eq n)) (dedup_is eqb _ _ c.dedup.ensures.filtered)
-    ∙ has_once n _
+    ∙ any_once eqb (nat_eq n) (λ x k e. ap (nat_eq n) (number_is x k e)) _
     ∙ sym (list_any-IsPermutation (nat_eq n) _ _ c.sort_unstable.ensures.permutation)
     ∙ ap (list_any (nat_eq n)) (search rules)

@@ -1,8 +1,7 @@
-use Rattle.std.proofs.Common.{◌≡◌, ℕ, ◌+◌, ◌<◌, ◌^◌, List, [], nat_eq, length, get_or, map, take, sym, ◌∙◌, ap, subst, arith}
+use Rattle.std.proofs.Common.{◌≡◌, ℕ, ◌<◌, ◌^◌, List, [], length, get_or, map, take, sym, ◌∙◌, ap, subst, arith}
 use Rattle.std.specs.List.Sorted.{IsStrictlySortedBy}
 use Rattle.std.specs.Ordering.{nat_cmp}
 use Rattle.std.proofs.lemmas.List.{take_all}
-use Rattle.std.proofs.lemmas.List.Folds.{list_any_more}
 use Rattle.std.proofs.lemmas.Option.{slice_get_within}
 use Rattle.fuxi_terms.proofs.Lists.{all_at}
 use Rattle.fuxi_terms.specs.Numbers.{has_number}
@@ -14,18 +13,18 @@ use Rattle.broadcast.specs.Shown.{number_of, Shows}
 use Rattle.broadcast.specs.AllShown.{Down, spot_of, is_machine}
 use Rattle.broadcast.specs.OfNumbers.{of_number}
 use Rattle.broadcast.specs.declared.machine_row.RowNumber.{RowNumber}
-use Rattle.broadcast.proofs.OfNumbersLemmas.{none_of, not_before}
-use Rattle.broadcast.proofs.ShownRows.{none_shown, turn, shown_over, shown_next, set_at, row_at, all_shown}
+use Rattle.broadcast.proofs.OfNumbersLemmas.{none_of, none_reached, turn, reached_over, reached_next}
+use Rattle.broadcast.proofs.ShownRows.{ShowsRow, set_at, row_at, all_shown}
 use Rattle.broadcast.proofs.rows.show_all_rows.Goals as goal
 
 pub loop-machine-init : goal.loop-machine-init
-loop-machine-init c = none_shown c.args.table.now c.args.forced c.args.sides.now.items
+loop-machine-init c = none_reached (ShowsRow c.args.table.now c.args.forced) c.args.sides.now.items
 
 pub loop-machine-preserved-then-at-len : goal.loop-machine-preserved-then-at-len
 loop-machine-preserved-then-at-len c =
     let items = c.deref-machine-items.result.now in
     let k = c.loop-machine.machine-index in
-    shown_over c.args.table.now c.args.forced c.args.sides.now.items c.loop-machine.sides.items (take k items) (take (k + 1) items) (get_or items k 0) (λ m. list_any_more (nat_eq m) items k 0 c.loop-machine-test.true) c.loop-machine.invariant
+    reached_over (ShowsRow c.args.table.now c.args.forced) items k c.loop-machine-test.true c.args.sides.now.items c.loop-machine.sides.items c.loop-machine.invariant
     (omega (arith, c.if-at-len.true, c.len.ensures, c.loop-machine.invariant.wide))
 
 pub show_one-requires-clause-last : goal.show_one-requires-clause-last
@@ -33,8 +32,8 @@ show_one-requires-clause-last c =
     let items = c.deref-machine-items.result.now in
     let k = c.loop-machine.machine-index in
     let rising = subst (IsStrictlySortedBy nat_cmp) (sym c.deref-machine-items.ensures.value) c.in_ok-machines.ensures.rising in
-    let this = turn c.args.table.now c.args.forced c.args.sides.now.items c.loop-machine.sides.items (take k items) (get_or items k 0) c.index_mut.result.now c.loop-machine.invariant (not_before items k 0 rising c.loop-machine-test.true) (omega (arith, c.if-at-len.false, c.len.ensures)) c.index_mut.ensures.value in
-    all_at (λ (d : Down). d.outgoing.last < 2 ^ 62) c.args.sides.now.items (get_or items k 0) c.index_mut.result.now c.requires.last this.1
+    let this = turn (ShowsRow c.args.table.now c.args.forced) items k c.loop-machine-test.true c.args.sides.now.items c.loop-machine.sides.items c.loop-machine.invariant c.index_mut.result.now rising (omega (arith, c.if-at-len.false, c.len.ensures)) c.index_mut.ensures.value in
+    all_at (λ (d : Down). d.outgoing.last < 2 ^ 62) c.args.sides.now.items (get_or items k 0) c.index_mut.result.now c.requires.last this
 
 pub show_one-requires-clause-set : goal.show_one-requires-clause-set
 show_one-requires-clause-set c =
@@ -45,9 +44,9 @@ show_one-requires-clause-set c =
     let i = get_or items k 0 in
     let d = c.index_mut.result.now in
     let rising = subst (IsStrictlySortedBy nat_cmp) (sym c.deref-machine-items.ensures.value) c.in_ok-machines.ensures.rising in
-    let this = turn t c.args.forced old c.loop-machine.sides.items (take k items) i d c.loop-machine.invariant (not_before items k 0 rising c.loop-machine-test.true) (omega (arith, c.if-at-len.false, c.len.ensures)) c.index_mut.ensures.value in
-    let are = ap (λ (ns : List (ℕ × RowNumber)). map number_of (of_number i ns)) c.deref-in-loop-machine.ensures.value ∙ c.in_ok-numbers.ensures.each i (omega (arith, slice_get_within old i d this.1, c.requires.wide)) in
-    set_at t c.cluster-cluster.ensures.sound (map spot_of c.args.spots.now) c.requires.order old c.requires.before i d this.1 (map number_of (of_number i c.deref-in-loop-machine.result.now)) are
+    let this = turn (ShowsRow c.args.table.now c.args.forced) items k c.loop-machine-test.true c.args.sides.now.items c.loop-machine.sides.items c.loop-machine.invariant c.index_mut.result.now rising (omega (arith, c.if-at-len.false, c.len.ensures)) c.index_mut.ensures.value in
+    let are = ap (λ (ns : List (ℕ × RowNumber)). map number_of (of_number i ns)) c.deref-in-loop-machine.ensures.value ∙ c.in_ok-numbers.ensures.each i (omega (arith, slice_get_within old i d this, c.requires.wide)) in
+    set_at t c.cluster-cluster.ensures.sound (map spot_of c.args.spots.now) c.requires.order old c.requires.before i d this (map number_of (of_number i c.deref-in-loop-machine.result.now)) are
 
 pub loop-machine-preserved : goal.loop-machine-preserved
 loop-machine-preserved c =
@@ -62,11 +61,11 @@ loop-machine-preserved c =
     let e = c.show_one.new.side in
     let rising = subst (IsStrictlySortedBy nat_cmp) (sym c.deref-machine-items.ensures.value) c.in_ok-machines.ensures.rising in
     let lt : i < length now = omega (arith, c.if-at-len.false, c.len.ensures) in
-    let this = turn t c.args.forced old now (take k items) i d c.loop-machine.invariant (not_before items k 0 rising c.loop-machine-test.true) lt c.index_mut.ensures.value in
+    let this = turn (ShowsRow c.args.table.now c.args.forced) items k c.loop-machine-test.true c.args.sides.now.items c.loop-machine.sides.items c.loop-machine.invariant c.index_mut.result.now rising lt c.index_mut.ensures.value in
     let ns = map number_of (of_number i c.deref-in-loop-machine.result.now) in
-    let are = ap (λ (ns : List (ℕ × RowNumber)). map number_of (of_number i ns)) c.deref-in-loop-machine.ensures.value ∙ c.in_ok-numbers.ensures.each i (omega (arith, slice_get_within old i d this.1, c.requires.wide)) in
-    let row = row_at t c.cluster-cluster.ensures.sound ss c.requires.order old c.requires.before i d this.1 ns are c.rows_follow_tables.ensures in
-    shown_next t c.args.forced old now (take k items) (take (k + 1) items) i (λ m. list_any_more (nat_eq m) items k 0 c.loop-machine-test.true) c.loop-machine.invariant d e this.0 this.1
+    let are = ap (λ (ns : List (ℕ × RowNumber)). map number_of (of_number i ns)) c.deref-in-loop-machine.ensures.value ∙ c.in_ok-numbers.ensures.each i (omega (arith, slice_get_within old i d this, c.requires.wide)) in
+    let row = row_at t c.cluster-cluster.ensures.sound ss c.requires.order old c.requires.before i d this ns are c.rows_follow_tables.ensures in
+    reached_next (ShowsRow c.args.table.now c.args.forced) items k c.loop-machine-test.true old now c.loop-machine.invariant d e lt this
     (subst (λ row. Shows [] patched_row IsRow row_ledger report_of (is_machine c.args.forced i) row d e) row c.in_ok-show_one.ensures)
 
 pub returns : goal.returns
