@@ -92,7 +92,7 @@ module _ (x : CoreRecord) (core : IsCore x) (sound : IsSound x.allotment.table) 
 
   pub adopted_changes : Changes news (adopting_role m) x after
   adopted_changes = record {
-    mid = mid_by x core.near sound z done.spots done.table x.known x.serving reported news (same_jobs x.known.jobs)
+    mid = mid_by x core.near sound z done.spots done.table x.known x.serving reported news core.boots (λ a _. refl) (same_jobs x.known.jobs)
         (record {
           numbers = subst (AreNumbers key_cmp greatest_grant) (sym is.credited_is) (record { sorted = tt; within = tt });
           kinds = subst (AllByRecursion (λ (e : Key × ℕ). nat_eq e.0.what credited_what ≡ true)) (sym is.credited_is) tt;

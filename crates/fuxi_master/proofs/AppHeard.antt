@@ -1,7 +1,8 @@
 -- A core that heard an application is in order, but that its grants do not have a new boot yet.
-use Rattle.std.proofs.Common.{◌≡◌, ℕ, ◌<◌, ◌≤◌, Bool, true, false, cond, not, nat_eq, nat_lt, length, set, Some, None, Ok, slice_get, refl, sym, ◌∙◌, ap, subst, arith}
-use Rattle.std.specs.Prelude.{◌&&◌, ◌||◌, is_some, if◌then◌else◌}
+use Rattle.std.proofs.Common.{◌≡◌, ℕ, ◌<◌, ◌≤◌, Bool, true, false, cond, not, nat_eq, nat_lt, length, set, Option, Some, None, Ok, slice_get, refl, sym, ◌∙◌, ap, subst, arith}
+use Rattle.std.specs.Prelude.{◌&&◌, ◌||◌, is_some, IfSome, if◌then◌else◌}
 use Rattle.std.proofs.lemmas.Bool.Decides.{nat_tests}
+use Rattle.std.proofs.lemmas.Option.{slice_get_within, IfSome_then}
 use Rattle.fuxi_terms.specs.Counts.{count}
 use Rattle.fuxi_terms.specs.Jobs.{is_known, is_live, has_ended, unit_count}
 use Rattle.fuxi_terms.specs.Keys.{key_cmp}
@@ -37,8 +38,11 @@ use Rattle.fuxi_master.proofs.DemandTaken.{live_is}
 use Rattle.fuxi_master.proofs.Indexed.{each_set, length_set}
 
 module _ (x : CoreRecord) (core : IsCore x) (a : ℕ) (old new : App) (packet : Packet) (heard : Heard)
-    (lt : a < length x.apps) (at : slice_get x.apps a ≡ Some (Some old)) (known : is_known x.known.jobs a ≡ true) (hears : HearsAlike empty_tally patched_grants (IsTally greatest_grant) tally_of tally_of (λ l. None) packet old new heard)
+    (at : slice_get x.apps a ≡ Some (Some old)) (known : is_known x.known.jobs a ≡ true) (hears : HearsAlike empty_tally patched_grants (IsTally greatest_grant) tally_of tally_of (λ l. None) packet old new heard)
     (outgoing : new.outgoing ≡ old.outgoing) (to : (packet_of packet).to.id ≡ master_id) where
+  lt : a < length x.apps
+  lt = slice_get_within x.apps a (Some old) at
+
   abbrev after : CoreRecord
   after = record x { apps = set x.apps a (Some new) }
 
@@ -170,7 +174,7 @@ module _ (x : CoreRecord) (core : IsCore x) (a : ℕ) (old new : App) (packet : 
               ∙ sym (count_where key_cmp same_key p new.incoming.received.entries k);
         }
 
-    pub changes_asked : ChangesAsked a heard.fresh (is_taken heard.what) change after
+    changes_asked : ChangesAsked a heard.fresh (is_taken heard.what) change after
     changes_asked = record {
       asks = λ d there. each (λ b (d : App). nat_eq a b ≡ true → heard.fresh ≡ false → is_taken heard.what ≡ true → d.incoming.received.head ≡ x.epoch → AsksButAt change.entries a d.incoming.received.entries x.allotment)
           (λ _. asked_new)
@@ -188,14 +192,16 @@ module _ (x : CoreRecord) (core : IsCore x) (a : ℕ) (old new : App) (packet : 
   heard_alike : (r : MasterRole) → StandsFor x r → HearsApp a packet heard after r
   heard_alike r h = hears_app x a old new packet heard lt at known hears outgoing to r h
 
-  pub app_heard : heard.fresh ≡ nat_lt old.incoming.place.inc packet.from.inc → new.incoming.place.inc ≡ (if nat_lt old.incoming.place.inc packet.from.inc then packet.from.inc else old.incoming.place.inc) → IsAppHeard a packet heard x after
+  pub app_heard : heard.fresh ≡ nat_lt old.incoming.place.inc packet.from.inc → new.incoming.place.inc ≡ (if nat_lt old.incoming.place.inc packet.from.inc then packet.from.inc else old.incoming.place.inc)
+      → (change : Option ChangeRecord) → IfSome change (λ change. ((nat_eq old.incoming.received.head x.epoch && not (has_ended x.known.jobs a)) ≡ true) × (packet.body ≡ DemandDelta change)) → IsAppHeard a packet heard change x after
   unfolding heard_near
-  app_heard fresh peer = record {
+  app_heard fresh peer change told = record {
     near = heard_near;
     boots = heard_boots fresh peer;
     only = heard_only;
     within = heard_within;
     hears = heard_alike;
+    asks = IfSome_then change told (λ change was. changes_asked was.0 change was.1);
   }
 
 -- the number of an application that sends

@@ -1,6 +1,6 @@
 -- A placer that was told a demand is told the next one by its changes.
-use Rattle.std.proofs.Common.{◌≡◌, ℕ, true, false, cond, nat_eq, nat_lt, List, length, get_or, Option, Some, None, refl, sym, ◌∙◌, ap, subst}
-use Rattle.std.specs.Prelude.{ℤ, ◌&&◌, IfSome}
+use Rattle.std.proofs.Common.{◌≡◌, ℕ, true, false, cond, nat_eq, nat_lt, List, length, get_or, refl, sym, ◌∙◌, ap, subst}
+use Rattle.std.specs.Prelude.{ℤ, ◌&&◌}
 use Rattle.fuxi_terms.specs.Cluster.{ClusterRecord, has_rack}
 use Rattle.fuxi_terms.specs.declared.Key.{Key}
 use Rattle.fuxi_terms.specs.Counts.{count}
@@ -19,13 +19,8 @@ use Rattle.allotment.specs.Allotted.{AllotmentRecord, CreditsBack}
 use Rattle.fuxi_master.specs.ToldAsHeard.{AsksButAt}
 use Rattle.fuxi_master.proofs.Projected.{units_alike}
 
--- what is said of a value that may be there
-pub some_more : {A : Type 0} (P Q : A → Type 0) (o : Option A) → ((x : A) → P x → Q x) → IfSome o P → IfSome o Q
-some_more P Q None f h = tt
-some_more P Q (Some x) f h = f x h
-
 -- what is credited changes nothing that is asked
-pub still_asks : (cs : List (Key × ℤ)) (a : ℕ) (es given : List (Key × ℕ)) (x y : AllotmentRecord) → CreditsBack a es given x y → AsksButAt cs a es x → AsksButAt cs a es y
+still_asks : (cs : List (Key × ℤ)) (a : ℕ) (es given : List (Key × ℕ)) (x y : AllotmentRecord) → CreditsBack a es given x y → AsksButAt cs a es x → AsksButAt cs a es y
 still_asks cs a es given x y back w = record {
   cluster = w.cluster;
   master = record w.master { table = credit a given (counted w.cluster w.master.jobs a (tally_ledger 0 es)).entries w.master.table };
@@ -92,10 +87,15 @@ module _ (cs : List (Key × ℤ)) (a : ℕ) (es : List (Key × ℕ)) (x : Allotm
     ] refl
   ] refl
 
-  pub otherwise_at : s.cluster ≡ x.table.cluster → units_seen s a ≡ unit_count (as_known x.table.jobs) a → AsksOtherwiseAt cs s a es
+  otherwise_at : s.cluster ≡ x.table.cluster → units_seen s a ≡ unit_count (as_known x.table.jobs) a → AsksOtherwiseAt cs s a es
   otherwise_at cluster places k off =
       let here = cluster ∙ w.allots.placing.cluster in
       let count_is : units_seen s a ≡ units = places ∙ (λ i. length (units_alike (as_known x.table.jobs) w.master.jobs w.allots.placing.jobs a i)) in
       (at_each k).at off
       ∙ (λ i. cond (is_there (sym here i) (sym count_is i) k) (count key_cmp es k) 0)
       ∙ ap (λ b. cond b (cond (is_there s.cluster (units_seen s a) k) (count key_cmp es k) 0) (asks_seen s a k)) (sym (nat_itself a))
+
+-- so it asks once what it gives back is credited
+pub told_credited : (cs : List (Key × ℤ)) (a : ℕ) (es given : List (Key × ℕ)) (x y : AllotmentRecord) → CreditsBack a es given x y → y.placer.seen.cluster ≡ y.table.cluster → units_seen y.placer.seen a ≡ unit_count (as_known y.table.jobs) a
+    → AsksButAt cs a es x → AsksOtherwiseAt cs y.placer.seen a es
+told_credited cs a es given x y back cluster units w = otherwise_at cs a es y (still_asks cs a es given x y back w) cluster units

@@ -28,7 +28,7 @@ use Rattle.fuxi_master.specs.Commands.{changed_by, beginning, unbanned_in, IsClo
 use Rattle.fuxi_master.proofs.AllotsAlike.{allots_alike}
 use Rattle.fuxi_master.proofs.ClosedMachines.{without_is, untouched, still_touches}
 use Rattle.fuxi_master.proofs.Projected.{known_alike}
-use Rattle.fuxi_master.proofs.NotYetShown.{KnowsAlike, same_jobs, AreCredits, moved_mid, credited_same, within_soon}
+use Rattle.fuxi_master.proofs.NotYetShown.{KnowsAlike, same_jobs, AreCredits, mid_by, credited_same, within_soon}
 use Rattle.fuxi_terms.proofs.NumbersLemmas.{among, with_is}
 use Rattle.fuxi_master.proofs.UnreportedBare.{where_none}
 use Rattle.fuxi_master.proofs.Told.{IsTold, stands_told}
@@ -57,7 +57,7 @@ module _ (x : CoreRecord) (core : IsCore x) (sound : IsSound x.allotment.table) 
       → ((r : MasterRole) → StandsFor x r → IsTold known serving x.reported r.state (f r.state)) → ((r : MasterRole) → StandsFor x r → Allots z r.cluster (f r.state)) → ((M : Master) → IsTidy M → IsTidy (f M)) → ((M : Master) → (f M).credited ≡ M.credited)
       → Changes news (changed_by f) x (record x { known = known; serving = serving; allotment = z })
   commanded z touches table known serving jobs f told allots tidy credited = record {
-    mid = moved_mid x core.near sound z touches table known serving x.reported news jobs (credits_of news is) (ap (λ o. with_reported o x.reported.numbers) (sym is.reported_is)) refl core.near.kept.rising core.near.kept.below;
+    mid = mid_by x core.near sound z touches.spots table known serving x.reported news core.boots (λ a _. refl) jobs (credits_of news is) (ap (λ o. with_reported o x.reported.numbers) (sym is.reported_is)) refl core.near.kept.rising core.near.kept.below;
     stands = λ r h. stands_told (credited_after news) x z known serving x.reported r h (f r.state) (ap (λ (t : TableRecord). t.cluster) table) (told r h) jobs.known (allots r h) (tidy r.state h.stands.tidy)
         (λ b d e. ap (λ cs. unwrap_or (find nat_cmp b cs) []) (credited r.state) ∙ h.stands.credited b d e ∙ sym (credited_same news b d (core.boots.known b d e refl) (nothing_credited news is b)))
         (λ b e. ap (λ cs. unwrap_or (find nat_cmp b cs) []) (credited r.state) ∙ h.stands.uncredited b e);

@@ -1,19 +1,21 @@
 -- What came of an application changes its demand and what is credited to it.
-use Rattle.std.proofs.Common.{◌≡◌, ℕ, ◌<◌, Bool, true, false, cond, not, nat_eq, nat_lt, List, [], length, get_or, Option, Some, None, slice_get, refl, sym, ◌∙◌, ap, subst, arith}
-use Rattle.std.specs.Prelude.{◌&&◌, ◌||◌, is_some}
+use Rattle.std.proofs.Common.{◌≡◌, ℕ, ◌<◌, Bool, true, false, cond, not, nat_eq, List, [], length, get_or, Option, Some, None, slice_get, refl, sym, ◌∙◌, ap, subst, arith}
+use Rattle.std.specs.Prelude.{◌&&◌, ◌||◌, is_some, IfSome}
 use Rattle.std.specs.List.{AllByRecursion}
 use Rattle.std.specs.Option.{unwrap_or, option_map}
 use Rattle.std.specs.Ordering.{nat_cmp}
 use Rattle.std.specs.FinMap.Entries.{put}
 use Rattle.std.proofs.lemmas.Bool.Decides.{nat_tests}
+use Rattle.std.proofs.lemmas.Option.{slice_get_read, IfSome_then}
 use Rattle.fuxi_terms.specs.Cluster.{ClusterRecord}
 use Rattle.fuxi_terms.specs.declared.Key.{Key}
 use Rattle.fuxi_terms.specs.Counts.{count}
+use Rattle.fuxi_terms.specs.Tallies.{ChangeRecord}
 use Rattle.fuxi_terms.specs.Jobs.{KnownJob, job_of, is_known, is_live, has_ended, unit_count, job_numbers}
 use Rattle.fuxi_terms.specs.Numbers.{has_number}
 use Rattle.fuxi_terms.specs.Keys.{key_cmp, spot_cmp}
 use Rattle.fuxi_terms.specs.TallyKeys.{credited_key, credited_what, greatest_grant}
-use Rattle.fuxi_terms.proofs.Booleans.{nat_itself, number_is, and_false, or_false}
+use Rattle.fuxi_terms.proofs.Booleans.{both_true, nat_itself, number_is, and_false, or_false}
 use Rattle.written_net.specs.Ledgers.{Ledger, nothing, tally_ledger}
 use Rattle.written_net.specs.Channels.{app_id}
 use Rattle.written_roles.specs.Masters.{Master, demand_of, credited_of}
@@ -21,19 +23,19 @@ use Rattle.written_roles.specs.MasterSteps.{counted, credit, raise_credited, tak
 use Rattle.written_roles.specs.MasterRoles.{MasterRole}
 use Rattle.grant_table.specs.GrantTables.{as_known, IsSound}
 use Rattle.allotment.specs.PlacingReads.{record_of}
-use Rattle.allotment.specs.Allotted.{AllotmentRecord, Allots}
+use Rattle.allotment.specs.Allotted.{AllotmentRecord, Allots, newly_credited}
 use Rattle.fuxi_terms.specs.NumbersSet.{numbers_set, AreNumbers}
 use Rattle.broadcast.specs.declared.grants.News.{News}
 use Rattle.broadcast.specs.AllShown.{App, is_job, with_reported, credited_in, credited_after}
 use Rattle.schedule_unit.specs.declared.party.AppNo.{AppNo}
-use Rattle.fuxi_master.specs.Cores.{CoreRecord, IsNear, IsTidy, HasBoots, StandsFor}
-use Rattle.fuxi_master.specs.Heard.{IsDemanded, IsCredit, Changes, newly_credited, demanding}
+use Rattle.fuxi_master.specs.Cores.{CoreRecord, IsKept, IsNear, IsTidy, HasBoots, StandsFor}
+use Rattle.fuxi_master.specs.Heard.{IsDemanded, IsCredit, Changes, ChangesAsked, demanding}
 use Rattle.fuxi_master.specs.Steps.{StandsMid}
+use Rattle.fuxi_master.specs.ToldAsHeard.{AsksButAt}
 use Rattle.fuxi_master.proofs.AllotsAlike.{allots_alike}
 use Rattle.fuxi_master.proofs.NewlyCredited.{raised_as, all_given, credited_shown}
-use Rattle.fuxi_master.proofs.Indexed.{got_from}
-use Rattle.fuxi_master.proofs.NotYetShown.{credited_same, moved_mid, same_jobs, within_soon}
-use Rattle.fuxi_master.proofs.Projected.{units_alike, known_alike}
+use Rattle.fuxi_master.proofs.NotYetShown.{credited_same, mid_by, same_jobs, within_soon}
+use Rattle.fuxi_master.proofs.Projected.{units_alike}
 use Rattle.fuxi_master.proofs.UnreportedBare.{credit_none}
 use Rattle.fuxi_master.proofs.Told.{put_at, stands_told}
 
@@ -74,6 +76,11 @@ pub demand_met : (fresh : Bool) (M : Master) (a b : ℕ) → demand_of (meet_app
 demand_met true M a b = put_at a b nothing nothing M.demands
 demand_met false M a b = refl
 
+-- an application beside the one of which something came is not new
+not_new : (fresh : Bool) (a b : ℕ) → nat_eq a b ≡ false → (fresh && nat_eq b a) ≡ false
+not_new true a b off = grind (arith, nat_tests, off)
+not_new false a b off = refl
+
 module _ (x : CoreRecord) (near : IsNear x) (a : ℕ) (fresh taken live : Bool) (d : App) (at : slice_get x.apps a ≡ Some (Some d)) (boots : HasBoots (λ b. fresh && nat_eq b a) x)
     (known : is_known x.known.jobs a ≡ true) (told : (fresh || taken) ≡ true) (z : AllotmentRecord) (numbers : List (Key × ℕ)) (done : IsDemanded a fresh live d x.allotment z numbers)
     (live_when : live ≡ (taken && (nat_eq d.incoming.received.head x.epoch && not (has_ended x.known.jobs a))))
@@ -102,13 +109,7 @@ module _ (x : CoreRecord) (near : IsNear x) (a : ℕ) (fresh taken live : Bool) 
 
   other : (b : ℕ) (e : App) → nat_eq a b ≡ false → slice_get x.apps b ≡ Some (Some e) → credited_after news b e ≡ credited_of M b
   other b e off there =
-      let flip : nat_eq b a ≡ false = grind (arith, nat_tests, off) in
-      let known_boot = boots.known b e there (by fresh flip) in
-      credited_same news b e known_boot (ap (λ (o : Option AppNo). cond (is_job o b) news.credited.items []) is.job_is ∙ ap (λ t. cond t news.credited.items []) off) ∙ sym (h.stands.credited b e there)
-    where
-      by : (f : Bool) → nat_eq b a ≡ false → (f && nat_eq b a) ≡ false
-      by true e = e
-      by false e = refl
+      credited_same news b e (boots.known b e there (not_new fresh a b off)) (ap (λ (o : Option AppNo). cond (is_job o b) news.credited.items []) is.job_is ∙ ap (λ t. cond t news.credited.items []) off) ∙ sym (h.stands.credited b e there)
 
   mine : credited_after news a d ≡ numbers_set key_cmp kept numbers
   mine = ap (numbers_set key_cmp kept) (ap (λ (o : Option AppNo). cond (is_job o a) news.credited.items []) is.job_is ∙ ap (λ t. cond t news.credited.items []) (nat_itself a) ∙ is.credited_is)
@@ -242,24 +243,28 @@ module _ (x : CoreRecord) (near : IsNear x) (a : ℕ) (fresh taken live : Bool) 
   pub demanding_stands : StandsMid news moved (demanding fresh taken r a)
   demanding_stands = subst (λ (g : Ledger). StandsMid news moved (record { cluster = c; state = told_of M fresh taken (app_id a) (counted c M.jobs a g); sides = r.sides })) (sym (h.stands.apps a d at).got) told_stands
 
--- the slot of a known job
-pub slot_at : (x : CoreRecord) → IsNear x → (a : ℕ) → is_known x.known.jobs a ≡ true → (o : Option App) → a < length x.apps → o ≡ get_or x.apps a o → slice_get x.apps a ≡ Some o
-slot_at x near a known o lt e = got_from x.apps a o lt e
+-- the slot of a job, as it was read
+pub slot_at : (x : CoreRecord) → IsKept x → (a : ℕ) → a < 256 → (o p : Option App) → o ≡ get_or x.apps a o → o ≡ p → slice_get x.apps a ≡ Some p
+slot_at x kept a small o p read is = slice_get_read x.apps 256 a o (sym kept.apps) small read ∙ ap Some is
 
--- and its units
-pub has_units : (x : CoreRecord) → IsNear x → (a n : ℕ) → is_known (as_known x.allotment.table.jobs) a ≡ nat_lt 0 n → n ≡ unit_count (as_known x.allotment.table.jobs) a → is_known x.known.jobs a ≡ true → 0 < unit_count (as_known x.allotment.table.jobs) a
-has_units x near a n tells is known =
-    let same : is_known (as_known x.allotment.table.jobs) a ≡ is_known x.known.jobs a = known_alike (as_known x.allotment.table.jobs) x.known.jobs a (near.kept.jobs a) in
-    let t : nat_lt 0 n ≡ true = sym tells ∙ same ∙ known in
-    let some : 0 < n = grind (arith, nat_tests, t) in
-    omega (arith, some, is)
+-- that of a known job is not empty
+pub slot_there : (x : CoreRecord) → IsKept x → (a : ℕ) → a < 256 → is_known x.known.jobs a ≡ true → (o : Option App) → o ≡ get_or x.apps a o → o ≡ None → ⊥
+slot_there x kept a small known o read is = let f : false ≡ true = kept.slots a None (slot_at x kept a small o None read is) ∙ known in cc
+
+-- where its demand counts still, a change that was taken of it names the keys at which it asks otherwise
+pub asked_live : (x : CoreRecord) (a : ℕ) (fresh taken live : Bool) (d : App) → slice_get x.apps a ≡ Some (Some d) → live ≡ (taken && (nat_eq d.incoming.received.head x.epoch && not (has_ended x.known.jobs a)))
+    → (o : Option ChangeRecord) → IfSome o (λ change. ChangesAsked a fresh taken change x) → IfSome o (λ change. fresh ≡ false → live ≡ true → AsksButAt change.entries a d.incoming.received.entries x.allotment)
+asked_live x a fresh taken live d at live_when o asks =
+    IfSome_then o asks (λ change asked old on.
+    let counts = both_true taken (nat_eq d.incoming.received.head x.epoch && not (has_ended x.known.jobs a)) (sym live_when ∙ on) in
+    asked.asks d at old counts.0 (number_is d.incoming.received.head x.epoch (both_true (nat_eq d.incoming.received.head x.epoch) (not (has_ended x.known.jobs a)) counts.1).0))
 
 -- a core takes what came of an application
 pub demand_changes : (x : CoreRecord) → IsNear x → IsSound x.allotment.table → (a : ℕ) (fresh taken live : Bool) (d : App) → slice_get x.apps a ≡ Some (Some d) → HasBoots (λ b. fresh && nat_eq b a) x → is_known x.known.jobs a ≡ true → (fresh || taken) ≡ true
     → (z : AllotmentRecord) (numbers : List (Key × ℕ)) → IsDemanded a fresh live d x.allotment z numbers → live ≡ (taken && (nat_eq d.incoming.received.head x.epoch && not (has_ended x.known.jobs a)))
     → (news : News) → IsCredit (record { 0 = a }) numbers news → Changes news (λ r. demanding fresh taken r a) x (record x { allotment = z })
 demand_changes x near sound a fresh taken live d at boots known told z numbers done live_when news is = record {
-  mid = moved_mid x near sound z done.touches done.table x.known x.serving x.reported news (same_jobs x.known.jobs)
+  mid = mid_by x near sound z done.touches.spots done.table x.known x.serving x.reported news boots (λ b off. not_new fresh a b (sym (ap (λ o. is_job o b) is.job_is) ∙ off)) (same_jobs x.known.jobs)
       (record {
         numbers = subst (AreNumbers key_cmp greatest_grant) (sym is.credited_is) done.numbers_are;
         kinds = subst (AllByRecursion (λ (e : Key × ℕ). nat_eq e.0.what credited_what ≡ true)) (sym is.credited_is) done.kinds;

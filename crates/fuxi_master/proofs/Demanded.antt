@@ -16,9 +16,9 @@ use Rattle.allotment.specs.PlacingReads.{has_spot}
 use Rattle.written_net.specs.Ledgers.{tally_ledger}
 use Rattle.written_roles.specs.Masters.{Master}
 use Rattle.written_roles.specs.MasterSteps.{counted, credit}
-use Rattle.allotment.specs.Allotted.{AllotmentRecord, Allots, Touches, CreditsBack}
+use Rattle.allotment.specs.Allotted.{AllotmentRecord, Allots, Touches, CreditsBack, newly_credited}
 use Rattle.broadcast.specs.AllShown.{App}
-use Rattle.fuxi_master.specs.Heard.{IsCredited, IsDemanded, newly_credited}
+use Rattle.fuxi_master.specs.Heard.{IsCredited, IsDemanded}
 use Rattle.fuxi_master.proofs.NewlyCredited.{are_numbers, are_credited}
 
 abbrev pub AsksAlike : ℕ → List (Key × ℕ) → AllotmentRecord → AllotmentRecord → Type 0

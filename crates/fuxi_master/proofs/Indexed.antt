@@ -1,5 +1,5 @@
 -- Items of a list by their places.
-use Rattle.std.proofs.Common.{◌≡◌, ℕ, zero, suc, ◌<◌, cond, nat_eq, List, [], ◌∷◌, length, get_or, set, true, false, Some, slice_get, refl, sym, ◌∙◌, ap, subst, arith}
+use Rattle.std.proofs.Common.{◌≡◌, ℕ, zero, suc, ◌<◌, cond, nat_eq, List, [], ◌∷◌, length, set, true, false, Some, slice_get, refl, sym, ◌∙◌, ap, subst, arith}
 use Rattle.std.specs.List.{AllByRecursion}
 use Rattle.std.proofs.lemmas.Option.{slice_get_within}
 use Rattle.std.proofs.lemmas.Bool.Decides.{nat_tests}
@@ -46,9 +46,3 @@ each_set {A} P xs i y lt here others k x e = elim (nat_eq i k) as (λ b. nat_eq 
   | true ↦ λ t e. let same : y ≡ x = cc in subst (λ (n : ℕ). P n x) (number_is i k t) (subst (P i) same here)
   | false ↦ λ f e. others k x f e
 ] refl (sym (got_set xs i y k lt) ∙ e)
-
--- an item that was read by its place
-pub got_from : {A : Type 0} (xs : List A) (i : ℕ) (x : A) → i < length xs → x ≡ get_or xs i x → slice_get xs i ≡ Some x
-got_from [] i x lt e = absurd (omega (arith, lt))
-got_from (y ∷ ys) zero x lt e = ap Some (sym e)
-got_from (y ∷ ys) (suc i) x lt e = got_from ys i x (omega (arith, lt)) e

@@ -169,6 +169,8 @@ module _ (x : CoreRecord) (core : IsCore x) (sound : IsSound x.allotment.table) 
             (λ _. ap (λ (e : App). e.outgoing.present.entries) d_is) (λ a e off at t. absurd (let f : true ≡ false = sym t ∙ named a ∙ off in cc));
         machines = λ a t. is.machines_are;
         nothing = λ a t. subst (λ b. count_entries b x.allotment.table.entries ≡ []) (number_is j.number a (sym (named a) ∙ t)) no_grants;
+        boots = each_app (λ a e. is_job news.admitted a ≡ false → is_job news.job a ≡ false → e.outgoing.present.head ≡ e.incoming.place.inc)
+            (λ f _. absurd (let t : true ≡ false = sym (nat_itself j.number) ∙ sym (named j.number) ∙ f in cc)) (λ a e off at _ _. core.boots.known a e at refl);
       };
       numbers = subst (AreNumbers key_cmp greatest_grant) (sym is.credited_is) (record { sorted = tt; within = tt });
       kinds = subst (AllByRecursion (λ e. nat_eq e.0.what credited_what ≡ true)) (sym is.credited_is) tt;

@@ -1,5 +1,5 @@
 -- What is credited of the numbers that a demand gives back.
-use Rattle.std.proofs.Common.{◌≡◌, ℕ, zero, suc, ◌+◌, ◌≤◌, ◌++◌, take, slice_get, add-one, Bool, true, false, cond, not, nat_eq, nat_lt, T, List, [], ◌∷◌, map, filter, Some, refl, sym, ◌∙◌, ap, subst, arith}
+use Rattle.std.proofs.Common.{◌≡◌, ℕ, ◌≤◌, Bool, true, false, cond, not, nat_eq, nat_lt, T, List, [], ◌∷◌, map, filter, refl, sym, ◌∙◌, ap, subst, arith}
 use Rattle.std.specs.Prelude.{◌&&◌, ◌||◌}
 use Rattle.std.specs.List.{AllByRecursion}
 use Rattle.std.specs.Option.{unwrap_or}
@@ -9,8 +9,6 @@ use Rattle.std.specs.FinMap.Entries.{put, where_key, find-where_key, is_sorted, 
 use Rattle.std.specs.declared.cmp.Ordering.TheVariants.{Less, Equal}
 use Rattle.std.specs.Cmp.{tied_itself}
 use Rattle.std.proofs.lemmas.Bool.Decides.{nat_tests}
-use Rattle.std.proofs.lemmas.List.{map-append}
-use Rattle.std.proofs.lemmas.List.Elements.{filter-append}
 use Rattle.fuxi_terms.specs.declared.Key.{Key}
 use Rattle.fuxi_terms.specs.Cluster.{ClusterRecord, has_machine, has_rack}
 use Rattle.fuxi_terms.specs.Counts.{count, set_count, AreCounts}
@@ -23,7 +21,7 @@ use Rattle.fuxi_terms.proofs.KeyOrders.{key_total, same_key}
 use Rattle.written_roles.specs.MasterSteps.{is_there, raise_credited}
 use Rattle.fuxi_terms.specs.NumbersSet.{numbers_set, AreNumbers}
 use Rattle.broadcast.specs.AllShown.{credited_in}
-use Rattle.fuxi_master.specs.Heard.{is_new_back, newly_credited}
+use Rattle.allotment.specs.Allotted.{is_new_back, newly_credited}
 
 abbrev pub entry_of : Key × ℕ → Key × ℕ
 entry_of e = (credited_key e.0.unit e.0.number, e.1)
@@ -163,20 +161,3 @@ are_credited c units given es = all_mapped (λ (e : Key × ℕ). nat_eq e.0.what
     each : (xs : List (Key × ℕ)) → AllByRecursion (λ (e : Key × ℕ). nat_eq (entry_of e).0.what credited_what ≡ true) xs
     each [] = tt
     each (x ∷ xs) = (refl, each xs)
-
--- One entry more is looked at
-entry_more : (es : List (Key × ℕ)) (i : ℕ) (e : Key × ℕ) → slice_get es i ≡ Some e → take (i + 1) es ≡ take i es ++ e ∷ []
-entry_more [] i e h = cc
-entry_more (y ∷ ys) zero e h = let same : y ≡ e = cc in ap (λ z. z ∷ []) same
-entry_more (y ∷ ys) (suc i) e h = rw add-one (ap (λ zs. y ∷ zs) (sym (ap (λ k. take k ys) (add-one i)) ∙ entry_more ys i e h))
-
-pub credited_more : (c : ClusterRecord) (units : ℕ) (given es : List (Key × ℕ)) (i : ℕ) (e : Key × ℕ) → slice_get es i ≡ Some e → newly_credited c units given (take (i + 1) es) ≡ newly_credited c units given (take i es) ++ cond (is_new_back c units given e) (entry_of e ∷ []) []
-credited_more c units given es i e at =
-    ap (newly_credited c units given) (entry_more es i e at)
-    ∙ ap (map entry_of) (filter-append (is_new_back c units given) (take i es) (e ∷ []))
-    ∙ map-append entry_of (filter (is_new_back c units given) (take i es)) (filter (is_new_back c units given) (e ∷ []))
-    ∙ ap (λ xs. newly_credited c units given (take i es) ++ xs) (last (is_new_back c units given e))
-  where
-    last : (b : Bool) → map entry_of (cond b (e ∷ []) []) ≡ cond b (entry_of e ∷ []) []
-    last true = refl
-    last false = refl

@@ -17,12 +17,12 @@ use Rattle.hard_state.specs.Knowledge.{Knowledge}
 use Rattle.failover.specs.Reported.{Reported}
 use Rattle.allotment.specs.PlacingReads.{record_of}
 use Rattle.allotment.specs.SettlingRuns.{AreTouched}
-use Rattle.allotment.specs.Allotted.{AllotmentRecord, Touches}
+use Rattle.allotment.specs.Allotted.{AllotmentRecord}
 use Rattle.broadcast.specs.Projections.{row_of}
 use Rattle.fuxi_terms.specs.NumbersSet.{numbers_set, AreNumbers}
 use Rattle.broadcast.specs.declared.grants.News.{News}
 use Rattle.broadcast.specs.AllShown.{Down, App, IsBefore, is_job, with_reported, credited_in, credited_after}
-use Rattle.fuxi_master.specs.Cores.{CoreRecord, IsKept, IsNear, IsWithin, IsWithinSoon, shown_credited}
+use Rattle.fuxi_master.specs.Cores.{CoreRecord, HasBoots, IsKept, IsNear, IsWithin, IsWithinSoon, shown_credited}
 use Rattle.fuxi_master.specs.Steps.{IsMid}
 
 -- a cluster has at most 256 machines
@@ -61,7 +61,7 @@ module _ (x : CoreRecord) (near : IsNear x) (sound : IsSound x.allotment.table) 
     others = λ s off. spots.others s off;
   }
 
-  module _ (known : Knowledge) (serving : Bool) (reported : Reported) (news : News) (jobs : KnowsAlike x.known.jobs known.jobs) (credits : AreCredits news)
+  module _ (known : Knowledge) (serving : Bool) (reported : Reported) (news : News) {new : ℕ → Bool} (boots : HasBoots new x) (old : (a : ℕ) → is_job news.job a ≡ false → new a ≡ false) (jobs : KnowsAlike x.known.jobs known.jobs) (credits : AreCredits news)
       (now : reported.numbers ≡ with_reported news.reported x.reported.numbers) (size : reported.size ≡ x.reported.size)
       (rising : T (is_sorted {X = ℕ} nat_cmp (map (λ (m : ℕ). (m, 0)) reported.numbers))) (below : AllByRecursion (λ m. m < length x.allotment.table.cluster.machines) reported.numbers) where
     abbrev moved : CoreRecord
@@ -104,19 +104,13 @@ module _ (x : CoreRecord) (near : IsNear x) (sound : IsSound x.allotment.table) 
         new = λ a d e is. absurd (let f : true ≡ false = sym is ∙ none_admitted news a credits.admitted in cc);
         machines = λ a is. absurd (let f : true ≡ false = sym is ∙ none_admitted news a credits.admitted in cc);
         nothing = λ a is. absurd (let f : true ≡ false = sym is ∙ none_admitted news a credits.admitted in cc);
+        boots = λ a d e _ off. boots.known a d e (old a off);
       };
       numbers = credits.numbers;
       kinds = credits.kinds;
       rising = subst (λ (ms : List MachineNo). T (is_sorted {X = ℕ} nat_cmp (map (λ (m : MachineNo). (m.0, 0)) ms))) (sym credits.machines) tt;
       below = subst (λ (ms : List MachineNo). AllByRecursion (λ (m : MachineNo). m.0 < most_machines) ms) (sym credits.machines) tt;
     }
-
--- the same where the turns of the placer stay
-pub moved_mid : (x : CoreRecord) → IsNear x → IsSound x.allotment.table → (z : AllotmentRecord) → Touches x.allotment z → z.table ≡ record x.allotment.table { entries = z.table.entries }
-    → (known : Knowledge) (serving : Bool) (reported : Reported) (news : News) → KnowsAlike x.known.jobs known.jobs → AreCredits news → reported.numbers ≡ with_reported news.reported x.reported.numbers → reported.size ≡ x.reported.size
-    → T (is_sorted {X = ℕ} nat_cmp (map (λ (m : ℕ). (m, 0)) reported.numbers)) → AllByRecursion (λ m. m < length x.allotment.table.cluster.machines) reported.numbers
-    → IsMid (record x { known = known; serving = serving; reported = reported; allotment = z }) news
-moved_mid x near sound z touches table known serving reported news jobs credits now size rising below = mid_by x near sound z touches.spots table known serving reported news jobs credits now size rising below
 
 -- what is credited is what was shown, where the boot is the same and nothing new is credited
 pub credited_same : (news : News) (a : ℕ) (d : App) → d.outgoing.present.head ≡ d.incoming.place.inc → cond (is_job news.job a) news.credited.items [] ≡ [] → credited_after news a d ≡ shown_credited a d

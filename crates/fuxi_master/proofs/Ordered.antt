@@ -25,4 +25,5 @@ module _ (t : TableRecord) (spots ordered : List Spot) (same : (s : Spot) → ha
     new = g.new;
     machines = g.machines;
     nothing = g.nothing;
+    boots = g.boots;
   }

@@ -37,7 +37,7 @@ room_made x y p planned carried waits up spots table turns = record {
 
 module _ (x : CoreRecord) (core : IsCore x) (sound : IsSound x.allotment.table) (z : AllotmentRecord) where
   made_mid : IsPreempted true x.allotment z → (news : News) → IsNews None None news → IsMid (record x { allotment = z }) news
-  made_mid made news is = mid_by x core.near sound z made.spots made.table x.known x.serving x.reported news (same_jobs x.known.jobs) (credits_of news is)
+  made_mid made news is = mid_by x core.near sound z made.spots made.table x.known x.serving x.reported news core.boots (λ a _. refl) (same_jobs x.known.jobs) (credits_of news is)
       (ap (λ o. with_reported o x.reported.numbers) (sym is.reported_is)) refl core.near.kept.rising core.near.kept.below
 
   made_room : IsPreempted true x.allotment z → (news : News) → IsNews None None news → (r : MasterRole) → StandsFor x r → RoomIsMade news (record x { allotment = z }) r

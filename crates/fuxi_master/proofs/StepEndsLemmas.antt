@@ -88,6 +88,7 @@ module _ (x y : CoreRecord) (news : News) (readied : IsCoreReadied x y) where
       new = mid.grants.new;
       machines = mid.grants.machines;
       nothing = mid.grants.nothing;
+      boots = mid.grants.boots;
     };
     numbers = mid.numbers;
     kinds = mid.kinds;

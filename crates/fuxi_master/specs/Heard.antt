@@ -1,5 +1,5 @@
 -- What a core makes of a packet, before the end of the step.
-use Rattle.std.specs.Prelude.{◌≡◌, ℕ, Bool, true, false, cond, not, nat_eq, nat_lt, ◌&&◌, T, List, [], Option, Some, None, filter, map, slice_get}
+use Rattle.std.specs.Prelude.{◌≡◌, ℕ, Bool, true, false, cond, not, nat_eq, ◌&&◌, T, List, [], Option, Some, None, IfSome, slice_get}
 use Rattle.std.specs.List.{AllByRecursion}
 use Rattle.fuxi_terms.specs.declared.vectors.Res.{Res}
 use Rattle.fuxi_terms.specs.declared.vectors.Sum.{Sum}
@@ -9,7 +9,7 @@ use Rattle.fuxi_terms.specs.Keys.{key_cmp}
 use Rattle.fuxi_terms.specs.Numbers.{has_number, with_number}
 use Rattle.fuxi_terms.specs.Rows.{row_total}
 use Rattle.fuxi_terms.specs.Tallies.{ChangeRecord}
-use Rattle.fuxi_terms.specs.TallyKeys.{credited_key, credited_what, greatest_grant, is_back}
+use Rattle.fuxi_terms.specs.TallyKeys.{credited_key, credited_what, greatest_grant}
 use Rattle.fuxi_terms.specs.Vectors.{fits}
 use Rattle.party_ledgers.specs.declared.packets.Heard.{Heard}
 use Rattle.party_ledgers.specs.declared.packets.Packet.{Packet}
@@ -22,9 +22,9 @@ use Rattle.std.specs.Ordering.{nat_cmp}
 use Rattle.std.specs.FinMap.Entries.{put, is_sorted}
 use Rattle.fuxi_terms.specs.NumbersSet.{AreNumbers}
 use Rattle.written_net.specs.Ledgers.{Ledger, nothing, tally_ledger}
-use Rattle.allotment.specs.Allotted.{AllotmentRecord, Allots, Touches}
+use Rattle.allotment.specs.Allotted.{AllotmentRecord, Allots, Touches, newly_credited}
 use Rattle.written_roles.specs.MasterSteps.{master_party, adopts, adopted, told_of, said, counted, credit}
-use Rattle.fuxi_terms.specs.Cluster.{ClusterRecord, machine_of, has_machine}
+use Rattle.fuxi_terms.specs.Cluster.{ClusterRecord, machine_of}
 use Rattle.fuxi_terms.specs.Padded.{padded}
 use Rattle.schedule_unit.specs.declared.party.MachineNo.{MachineNo}
 use Rattle.schedule_unit.specs.declared.party.AppNo.{AppNo}
@@ -114,23 +114,17 @@ pub record HearsApp (a : ℕ) (x : Packet) (heard : Heard) (new : CoreRecord) (r
   pub says : heard.what ≡ (heard_of r (app_id a) x).what
   pub role : StandsFor new (with_heard r (app_id a) (heard_of r (app_id a) x))
 
-pub record IsAppHeard (a : ℕ) (x : Packet) (heard : Heard) (old new : CoreRecord) : Type 0 where
+-- a change that was taken of a demand that counted: it names the keys at which the demand, where it counts still, asks otherwise than before
+pub record ChangesAsked (a : ℕ) (fresh taken : Bool) (change : ChangeRecord) (x : CoreRecord) : Type 0 where
+  pub asks : (d : App) → slice_get x.apps a ≡ Some (Some d) → fresh ≡ false → taken ≡ true → d.incoming.received.head ≡ x.epoch → AsksButAt change.entries a d.incoming.received.entries x.allotment
+
+pub record IsAppHeard (a : ℕ) (x : Packet) (heard : Heard) (change : Option ChangeRecord) (old new : CoreRecord) : Type 0 where
   pub near : IsNear new
   pub boots : HasBoots (λ b. heard.fresh && nat_eq b a) new
   pub only : IsHeardOnly a heard.fresh (is_taken heard.what) near.role
   pub within : (n : ℕ) → IsWithin n old → IsWithin n new
   pub hears : (r : MasterRole) → StandsFor old r → HearsApp a x heard new r
-
--- a change that was taken of a demand that counted: it names the keys at which the demand, where it counts still, asks otherwise than before
-pub record ChangesAsked (a : ℕ) (fresh taken : Bool) (change : ChangeRecord) (x : CoreRecord) : Type 0 where
-  pub asks : (d : App) → slice_get x.apps a ≡ Some (Some d) → fresh ≡ false → taken ≡ true → d.incoming.received.head ≡ x.epoch → AsksButAt change.entries a d.incoming.received.entries x.allotment
-
--- what a demand gives back that is not credited yet, of units and machines that are there
-abbrev pub is_new_back : ClusterRecord → ℕ → List (Key × ℕ) → Key × ℕ → Bool
-is_new_back c units given e = is_back e.0 && (nat_lt e.0.unit units && (has_machine c e.0.number && nat_lt (count key_cmp given (credited_key e.0.unit e.0.number)) e.1))
-
-abbrev pub newly_credited : ClusterRecord → ℕ → List (Key × ℕ) → List (Key × ℕ) → List (Key × ℕ)
-newly_credited c units given es = map (λ e. (credited_key e.0.unit e.0.number, e.1)) (filter (is_new_back c units given) es)
+  pub asks : IfSome change (λ change. ChangesAsked a heard.fresh (is_taken heard.what) change new)
 
 -- the state that takes what came of an application, where that is a new boot or a demand was taken
 abbrev pub demanding : Bool → Bool → MasterRole → ℕ → MasterRole

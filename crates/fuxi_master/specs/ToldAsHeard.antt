@@ -1,7 +1,5 @@
 -- What a master was told of each job's demand, beside what was received of the job's application.
 use Rattle.std.specs.Prelude.{◌≡◌, ℕ, ℤ, Bool, true, false, nat_eq, ◌&&◌, ◌||◌, List}
-use Rattle.std.specs.Ordering.{nat_cmp}
-use Rattle.std.specs.FinMap.Entries.{put}
 use Rattle.fuxi_terms.specs.Cluster.{ClusterRecord}
 use Rattle.fuxi_terms.specs.declared.Key.{Key}
 use Rattle.fuxi_terms.specs.Jobs.{is_live}
@@ -28,10 +26,3 @@ pub record AsksButAt (cs : List (Key × ℤ)) (a : ℕ) (es : List (Key × ℕ))
   pub master : Master
   pub allots : Allots x cluster master
   pub asks : (k : Key) → is_named k cs ≡ false → asked master a k ≡ at_key (counted cluster master.jobs a (tally_ledger 0 es)) k
-
--- a demand is taken over: nothing but what is asked changes
-pub record IsAsked (a : ℕ) (es : List (Key × ℕ)) (x y : AllotmentRecord) : Type 0 where
-  pub stands : (c : ClusterRecord) (M : Master) (head : ℕ) → Allots x c M → Allots y c (record M { demands = put nat_cmp a (counted c M.jobs a (tally_ledger head es)) M.demands })
-  pub table : y.table ≡ x.table
-  pub touched : y.touched ≡ x.touched
-  pub turns : y.placer.seen.turns ≡ x.placer.seen.turns

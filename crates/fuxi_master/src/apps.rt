@@ -4,28 +4,25 @@ ghost use Rattle.std.specs.Prelude.{◌≡◌, ◌<◌, ◌&&◌, ◌||◌, not,
 ghost use Rattle.fuxi_terms.specs.Counts.{AreCounts};
 ghost use Rattle.fuxi_terms.specs.Keys.{key_cmp};
 ghost use Rattle.fuxi_terms.specs.Tallies.{empty_tally};
-ghost use Rattle.fuxi_terms.specs.TallyKeys.{credited_key, greatest_demand, greatest_grant};
+ghost use Rattle.fuxi_terms.specs.TallyKeys.{greatest_demand, greatest_grant};
 ghost use Rattle.fuxi_terms.specs.Jobs.{has_ended, is_known, unit_count};
 ghost use Rattle.grant_table.specs.GrantTables.{as_known};
-ghost use Rattle.allotment.specs.Allotted.{AllWait};
+ghost use Rattle.allotment.specs.Allotted.{AllWait, newly_credited};
 ghost use Rattle.ledger_law.specs.Shapes.{IsTally};
 ghost use Rattle.party_ledgers.specs.Packets.{IsFormed};
 ghost use Rattle.party_ledgers.specs.declared.packets.Body.TheVariants.{DemandDelta};
-ghost use Rattle.written_net.specs.Net.{is_taken};
 ghost use Rattle.core_side.specs.Bodies.{tally_of};
 ghost use Rattle.core_side.specs.CoreSides.{HearsAlike};
 ghost use Rattle.schedule_unit.specs.declared.party.Role.TheVariants.{Master as AsMaster, App as AsApp};
 ghost use Rattle.fuxi_master.specs.Cores.{IsCore, IsNear, HasBoots, patched_grants};
-ghost use Rattle.fuxi_master.specs.ToldAsHeard.{AsksButAt, IsAsked};
-ghost use Rattle.fuxi_master.specs.Heard.{IsAppHeard, ChangesAsked, Changes, IsCredited, IsDemanded, demanding, is_new_back, newly_credited};
+ghost use Rattle.fuxi_master.specs.ToldAsHeard.{AsksButAt};
+ghost use Rattle.fuxi_master.specs.Heard.{IsAppHeard, ChangesAsked, Changes, IsCredited, IsDemanded, demanding};
 ghost use Rattle.fuxi_master.specs.Seen.{core_of};
 
 use crate::state::Core;
 use allotment::Allotment;
 use broadcast::News;
-use cluster_desc::Cluster;
 use core_side::{NoLimit, Side};
-use fuxi_terms::tally_keys::{BACK, CREDITED};
 use fuxi_terms::{Key, OutOfMemory};
 use hard_state::Known;
 use ledger_law::{Change, Ledger};
@@ -47,8 +44,7 @@ impl Core {
         requires known { is_known self.old.known.jobs packet.from.number ≡ true }
         requires to { packet.to.role ≡ AsMaster }
         requires zero { packet.to.number ≡ 0 }
-        ensures heard { IfOk result (λ told. IsAppHeard packet.from.number packet told.0 (core_of self.old) (core_of self.new)) }
-        ensures asks { IfOk result (λ told. IfSome told.1 (λ change. ChangesAsked packet.from.number told.0.fresh (is_taken told.0.what) change (core_of self.new))) }
+        ensures { IfOk result (λ told. IsAppHeard packet.from.number packet told.0 told.1 (core_of self.old) (core_of self.new)) }
     {
         let app = AppNo(packet.from.number);
         let Some(side) = &mut self.apps[app.0 as usize] else {
@@ -136,61 +132,6 @@ fn counts(taken: bool, side: &Side<Grants, Demand>, epoch: u64, known: &Known, a
     taken && (side.got().head() == epoch && !known.ended(app))
 }
 
-// Where the number of a unit and a machine that is given back is credited.
-fn credited_key(key: &Key) -> Key
-    ensures { result ≡ credited_key key.now.unit key.now.number }
-{
-    Key {
-        what: CREDITED,
-        unit: key.unit,
-        number: key.number,
-    }
-}
-
-// Whether a number that is given back is above what is credited, of a unit and a machine that are there.
-fn is_new_back(cluster: &Cluster, units: usize, given: &Grants, key: &Key, back: u64) -> bool
-    ensures { result ≡ is_new_back cluster.now units given.now.entries (key.now, back) }
-{
-    let there = (key.unit as usize) < units && key.number < cluster.machines();
-    key.what == BACK && there && given.get(&credited_key(key)) < back
-}
-
-// What a demand gives back that is not credited yet, of units and machines that are there.
-fn newly_credited(
-    alloc: Global,
-    demand: &Demand,
-    given: &Grants,
-    units: usize,
-    cluster: &Cluster,
-) -> Result<Vec<(Key, u64)>, OutOfMemory>
-    ensures numbers { IfOk result (λ numbers. numbers.items ≡ newly_credited cluster.now units given.now.entries demand.now.entries) }
-    ensures counts { IfOk result (λ numbers. AreCounts key_cmp greatest_demand demand.now.entries) }
-{
-    let entries = demand.entries();
-    let mut numbers = Vec::new(alloc);
-    for index in 0..entries.len() {
-        let (key, back) = entries[index];
-        if is_new_back(cluster, units, given, &key, back) {
-            numbers.push((credited_key(&key), back))?;
-        }
-    }
-    Ok(numbers)
-}
-
-// The demand of a job is now this one. A change of what it was names the keys at which it asks otherwise.
-fn asked(allotment: &mut Allotment, app: AppNo, demand: &Demand, change: &Option<Change>)
-    requires units { 0 < unit_count (as_known allotment.old.table.jobs) app.0 }
-    requires told { IfSome change.now (λ change. AsksButAt change.entries app.0 demand.now.entries allotment.old) }
-    ensures { IsAsked app.0 demand.now.entries allotment.old allotment.new }
-{
-    let _placer = allotment.placer();
-    if let Some(change) = change {
-        allotment.asked_at(app, demand, change.entries());
-        return;
-    }
-    allotment.asked(app, demand);
-}
-
 // Of what a demand gives back the table loses what is not credited yet, and the demand is then the job's. What is credited now is told.
 fn credited(
     alloc: Global,
@@ -207,11 +148,13 @@ fn credited(
     ensures counts { OnOk result (AreCounts key_cmp greatest_demand demand.now.entries) }
     ensures numbers { IfOk result (λ numbers. numbers.items ≡ newly_credited allotment.old.table.cluster (unit_count (as_known allotment.old.table.jobs) app.0) given.now.entries demand.now.entries) }
 {
-    let units = allotment.table().units(app);
-    let cluster = allotment.table().cluster();
-    let numbers = newly_credited(alloc, demand, given, units, cluster)?;
-    allotment.credit(app, demand, given)?;
-    asked(allotment, app, demand, change);
+    let numbers = allotment.credit(alloc, app, demand, given)?;
+    let _placer = allotment.placer();
+    if let Some(change) = change {
+        allotment.asked(app, demand, Some(change.entries()));
+        return Ok(numbers);
+    }
+    allotment.asked(app, demand, None);
     Ok(numbers)
 }
 
@@ -233,7 +176,7 @@ fn demanded(
 {
     let _entries = side.got().entries();
     if !live {
-        allotment.asked(app, &Demand::empty(alloc));
+        allotment.asked(app, &Demand::empty(alloc), None);
         return Ok(Vec::new(alloc));
     }
     if fresh {

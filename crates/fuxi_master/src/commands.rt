@@ -85,7 +85,7 @@ impl Core {
         let _sound = self.allotment.table().cluster();
         let _units = self.allotment.table().units(app);
         self.allotment.clear_job(app)?;
-        self.allotment.asked(app, &Demand::empty(alloc));
+        self.allotment.asked(app, &Demand::empty(alloc), None);
         self.known.finish(app);
         Ok(news(alloc, None, None))
     }

@@ -1,13 +1,14 @@
 use Rattle.std.proofs.Common.{rules, ◌≡◌, true, false, cond, [], sym, ◌∙◌, ap, subst}
+use Rattle.std.proofs.lemmas.Option.{IfSome_then}
 use Rattle.fuxi_terms.specs.Counts.{AreCounts}
 use Rattle.fuxi_terms.specs.Jobs.{unit_count}
 use Rattle.grant_table.specs.GrantTables.{as_known}
 use Rattle.fuxi_terms.specs.Keys.{key_cmp}
 use Rattle.fuxi_terms.specs.TallyKeys.{greatest_demand}
-use Rattle.fuxi_terms.specs.Tallies.{TallyRecord, ChangeRecord}
-use Rattle.fuxi_master.specs.Heard.{IsCredited, newly_credited}
+use Rattle.fuxi_terms.specs.Tallies.{TallyRecord}
+use Rattle.allotment.specs.Allotted.{newly_credited}
+use Rattle.fuxi_master.specs.Heard.{IsCredited}
 use Rattle.fuxi_master.specs.ToldAsHeard.{AsksButAt}
-use Rattle.fuxi_master.proofs.AsksOtherwise.{some_more}
 use Rattle.fuxi_master.proofs.Demanded.{dead_demanded, alive_demanded}
 use Rattle.fuxi_master.proofs.apps.demanded.Goals as goal
 
@@ -42,8 +43,7 @@ credited-requires-2-clause-told c =
     let d = c.args.side.now in
     let on : c.args.live ≡ true = search rules in
     let old : c.args.fresh ≡ false = search rules in
-    some_more (λ (change : ChangeRecord). c.args.fresh ≡ false → c.args.live ≡ true → AsksButAt change.entries a d.incoming.received.entries x) (λ (change : ChangeRecord). AsksButAt change.entries a c.got-2.result.now.entries x) c.args.change.now
-    (λ change asks. subst (λ (t : TallyRecord). AsksButAt change.entries a t.entries x) (sym c.got-2.ensures.received) (asks old on)) c.requires.told
+    IfSome_then c.args.change.now c.requires.told (λ change asks. subst (λ (t : TallyRecord). AsksButAt change.entries a t.entries x) (sym c.got-2.ensures.received) (asks old on))
 
 pub returns : goal.returns
 returns c =

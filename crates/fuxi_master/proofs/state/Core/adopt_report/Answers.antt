@@ -1,6 +1,7 @@
-use Rattle.std.proofs.Common.{◌≡◌, ◌<◌, cond, not, nat_eq, length, sym, ◌∙◌, ap, subst, arith}
+use Rattle.std.proofs.Common.{◌≡◌, ◌<◌, cond, not, nat_eq, length, refl, sym, ◌∙◌, ap, subst, arith}
 use Rattle.std.specs.Prelude.{◌&&◌}
 use Rattle.std.specs.List.{AllByRecursion}
+use Rattle.std.proofs.lemmas.Option.{slice_get_read}
 use Rattle.fuxi_terms.specs.Counts.{count}
 use Rattle.fuxi_terms.specs.Keys.{spot_cmp}
 use Rattle.fuxi_terms.specs.Numbers.{has_number}
@@ -18,7 +19,6 @@ use Rattle.fuxi_master.specs.Seen.{core_of}
 use Rattle.fuxi_master.proofs.Adopted.{IsEntered, adopted_changes, adopted_lined}
 use Rattle.fuxi_master.proofs.ReportAdopted.{IsUnitOf, kept_units, kept_fits}
 use Rattle.fuxi_master.proofs.AgentHeard.{has_is}
-use Rattle.fuxi_master.proofs.Indexed.{got_from}
 use Rattle.fuxi_master.proofs.state.Core.adopt_report.Goals as goal
 
 pub adopt-requires-2-clause-units : goal.adopt-requires-2-clause-units
@@ -45,7 +45,7 @@ returns c =
     let n = c.requires.core.near.kept.agents in
     let machine = c.requires.machine in
     let lt : m < length x.agents = omega (arith, n, machine) in
-    let at = got_from x.agents m d lt c.index.ensures in
+    let at = slice_get_read x.agents (length x.agents) m d refl lt c.index.ensures in
     let sound = subst IsSound c.table.ensures c.cluster.ensures.sound in
     let rows : c.table-report.result.now ≡ c.index.result.now.incoming.received.table = c.table-report.ensures ∙ ap (λ (j : JoinRecord). j.table) c.got.ensures.received in
     let kept : c.in-Ok.kept ≡ kept_of x.known m c.index.result.now.incoming.received.table = c.in-Ok.ensures.kept ∙ ap (kept_of x.known m) rows in

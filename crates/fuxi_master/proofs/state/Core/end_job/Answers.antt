@@ -11,8 +11,8 @@ use Rattle.fuxi_master.proofs.CommandsLemmas.{job_ended}
 use Rattle.fuxi_master.proofs.KnownJobs.{has_units}
 use Rattle.fuxi_master.proofs.state.Core.end_job.Goals as goal
 
-pub asked-requires : goal.asked-requires
-asked-requires c =
+pub asked-requires-clause-job : goal.asked-requires-clause-job
+asked-requires-clause-job c =
     let x = core_of c.args.self.now in
     subst (λ (t : TableRecord). 0 < unit_count (as_known t.jobs) c.args.app.0) (sym c.in_ok-clear_job.ensures.table)
     (has_units x.allotment.table c.table-2.result.now c.table-2.ensures x.known.jobs c.requires.core.near.kept.jobs c.args.app.0 c.units-units.result c.requires.known c.units-units.ensures.known c.units-units.ensures.number)

@@ -1,9 +1,9 @@
-use Rattle.std.proofs.Common.{◌<◌, length, ◌∙◌, ap, arith}
+use Rattle.std.proofs.Common.{◌<◌, length, refl, ◌∙◌, ap, arith}
+use Rattle.std.proofs.lemmas.Option.{slice_get_read}
 use Rattle.grant_table.specs.GrantTables.{TableRecord}
 use Rattle.fuxi_master.specs.Seen.{core_of}
 use Rattle.fuxi_master.proofs.AgentHeardAlike.{to_master}
 use Rattle.fuxi_master.proofs.AgentHeard.{test_in, made_test, heard_core, heard_within, heard_alike, heard_due}
-use Rattle.fuxi_master.proofs.Indexed.{got_from}
 use Rattle.fuxi_master.proofs.state.Core.hear_agent.Goals as goal
 
 pub returns : goal.returns
@@ -16,7 +16,7 @@ returns c =
     let n = c.requires.core.near.kept.agents in
     let machine = c.requires.machine in
     let lt : m < length x.agents = omega (arith, n, machine) in
-    let at = got_from x.agents m old lt c.index_mut-side.ensures.value in
+    let at = slice_get_read x.agents (length x.agents) m old refl lt c.index_mut-side.ensures.value in
     let to = to_master c.args.packet c.requires.to c.requires.zero in
     let cluster = c.cluster.ensures.cluster ∙ ap (λ (t : TableRecord). t.cluster) c.table.ensures in
     let is = made_test x m c.machine.result.now c.cluster.result.now c.has.result c.banned.result cluster c.machine.ensures c.has.ensures c.banned.ensures.banned in

@@ -1,49 +1,22 @@
-use Rattle.std.proofs.Common.{◌≡◌, ◌<◌, true, false, length, Some, None, sym, ◌∙◌, ap, arith}
-use Rattle.fuxi_master.specs.Heard.{ChangesAsked}
+use Rattle.std.proofs.Common.{◌≡◌, true, Some, subst}
+use Rattle.std.specs.Prelude.{IfSome}
+use Rattle.fuxi_terms.specs.Tallies.{ChangeRecord}
+use Rattle.party_ledgers.specs.declared.packets.Body.TheVariants.{DemandDelta}
 use Rattle.fuxi_master.specs.Seen.{core_of}
 use Rattle.fuxi_master.proofs.AgentHeardAlike.{to_master}
-use Rattle.fuxi_master.proofs.AppHeard.{app_heard, changes_asked, app_number}
-use Rattle.fuxi_master.proofs.AsksOtherwise.{some_more}
-use Rattle.fuxi_master.proofs.Indexed.{got_from}
+use Rattle.fuxi_master.proofs.AppHeard.{app_heard, app_number}
+use Rattle.fuxi_master.proofs.DemandTaken.{slot_at, slot_there}
 use Rattle.fuxi_master.proofs.state.Core.hear_app.Goals as goal
 
 pub unreachable-requires : goal.unreachable-requires
 unreachable-requires c =
-    let x = core_of c.args.self.now in
-    let a = c.args.packet.from.number in
-    let small = app_number c.args.packet c.requires.formed c.requires.from in
-    let n = c.requires.core.near.kept.apps in
-    let lt : a < length x.apps = omega (arith, n, small) in
-    let at = got_from x.apps a c.index_mut.result.now lt c.index_mut.ensures.value ∙ ap Some c.in_default.is in
-    let f : false ≡ true = c.requires.core.near.kept.slots a None at ∙ c.requires.known in
-    cc
+    slot_there (core_of c.args.self.now) c.requires.core.near.kept c.args.packet.from.number (app_number c.args.packet c.requires.formed c.requires.from) c.requires.known c.index_mut.result.now c.index_mut.ensures.value c.in_default.is
 
-pub returns-clause-heard : goal.returns-clause-heard
-returns-clause-heard c =
+pub returns : goal.returns
+returns c =
     let x = core_of c.args.self.now in
     let a = c.args.packet.from.number in
-    let old = c.in-Some.side in
-    let new = c.hear.new.side in
     let told = c.in_ok-told in
-    let small = app_number c.args.packet c.requires.formed c.requires.from in
-    let n = c.requires.core.near.kept.apps in
-    let lt : a < length x.apps = omega (arith, n, small) in
-    let at = got_from x.apps a c.index_mut.result.now lt c.index_mut.ensures.value ∙ ap Some c.in-Some.is in
-    let to = to_master c.args.packet c.requires.to c.requires.zero in
-    app_heard x c.requires.core a old new c.args.packet told.told.0 lt at c.requires.known told.ensures.hears told.ensures.outgoing to told.ensures.fresh told.ensures.peer
-
-pub returns-clause-asks : goal.returns-clause-asks
-returns-clause-asks c =
-    let x = core_of c.args.self.now in
-    let a = c.args.packet.from.number in
-    let old = c.in-Some.side in
-    let new = c.hear.new.side in
-    let told = c.in_ok-told in
-    let small = app_number c.args.packet c.requires.formed c.requires.from in
-    let n = c.requires.core.near.kept.apps in
-    let lt : a < length x.apps = omega (arith, n, small) in
-    let at = got_from x.apps a c.index_mut.result.now lt c.index_mut.ensures.value ∙ ap Some c.in-Some.is in
-    let to = to_master c.args.packet c.requires.to c.requires.zero in
-    some_more _ (λ change. ChangesAsked a told.told.0.fresh _ change _) told.told.1
-    (λ change was. changes_asked x c.requires.core a old new c.args.packet told.told.0 lt at c.requires.known told.ensures.hears told.ensures.outgoing to (sym c.counts-counted.ensures ∙ was.0) change was.1)
-    told.ensures.change
+    let at = slot_at x c.requires.core.near.kept a (app_number c.args.packet c.requires.formed c.requires.from) c.index_mut.result.now (Some c.in-Some.side) c.index_mut.ensures.value c.in-Some.is in
+    app_heard x c.requires.core a c.in-Some.side c.hear.new.side c.args.packet told.told.0 at c.requires.known told.ensures.hears told.ensures.outgoing (to_master c.args.packet c.requires.to c.requires.zero) told.ensures.fresh told.ensures.peer
+    told.told.1 (subst (λ b. IfSome told.told.1 (λ (change : ChangeRecord). (b ≡ true) × (c.args.packet.body ≡ DemandDelta change))) c.counts-counted.ensures told.ensures.change)

@@ -14,7 +14,7 @@ pub returns-then-not-taken : goal.returns-then-not-taken
 returns-then-not-taken c =
     let x = core_of c.args.self.now in
     let y = core_of c.hear_app.new.self in
-    let e = c.in_ok-heard.ensures.heard in
+    let e = c.in_ok-heard.ensures in
     let a = c.args.packet.from.number in
     let old : c.in_ok-heard.heard.fresh ≡ false = search rules in
     let kept : c.is_taken-taken.result ≡ false = search rules in
@@ -33,7 +33,7 @@ take_demand-requires-clause-small c = app_number c.args.packet c.requires.formed
 
 pub finished-requires-clause-role : goal.finished-requires-clause-role
 finished-requires-clause-role c =
-    let e = c.in_ok-heard.ensures.heard in
+    let e = c.in_ok-heard.ensures in
     let a = c.args.packet.from.number in
     let only = subst (λ t. IsHeardOnly a c.in_ok-heard.heard.fresh t e.near.role) (sym c.is_taken-taken.ensures) e.only in
     let told : (c.in_ok-heard.heard.fresh || c.is_taken-taken.result) ≡ true = search rules in
@@ -41,13 +41,13 @@ finished-requires-clause-role c =
     (told_demanding a c.in_ok-heard.heard.fresh c.is_taken-taken.result e.near.role only told)
 
 pub finished-requires-clause-within : goal.finished-requires-clause-within
-finished-requires-clause-within c = c.in_ok-news.ensures.changes.within c.args.steps (c.in_ok-heard.ensures.heard.within c.args.steps c.requires.within)
+finished-requires-clause-within c = c.in_ok-news.ensures.changes.within c.args.steps (c.in_ok-heard.ensures.within c.args.steps c.requires.within)
 
 pub returns : goal.returns
 returns c =
     let x = core_of c.args.self.now in
     let y = core_of c.hear_app.new.self in
-    let e = c.in_ok-heard.ensures.heard in
+    let e = c.in_ok-heard.ensures in
     let a = c.args.packet.from.number in
     let d = c.in_ok-news.ensures in
     record {
