@@ -76,15 +76,40 @@ has_filter q p (x ∷ xs) = elim (same_pair p x) as (λ b. same_pair p x ≡ b �
   ]
 ] refl
 
+filter_last : {A : Type 0} (q : A → Bool) (xs : List A) (x : A) → filter q (xs ++ x ∷ []) ≡ filter q xs ++ cond (q x) (x ∷ []) []
+filter_last q [] x = refl
+filter_last q (y ∷ ys) x = elim (q y) as (λ b. cond b (y ∷ filter q (ys ++ x ∷ [])) (filter q (ys ++ x ∷ [])) ≡ cond b (y ∷ filter q ys) (filter q ys) ++ cond (q x) (x ∷ []) []) [
+  | true ↦ ap (λ zs. y ∷ zs) (filter_last q ys x)
+  | false ↦ filter_last q ys x
+]
+
 pub filter_append : {A : Type 0} (q : A → Bool) (xs ys : List A) → filter q (xs ++ ys) ≡ filter q xs ++ filter q ys
 filter_append q [] ys = refl
 filter_append q (x ∷ xs) ys = elim (q x) as (λ b. cond b (x ∷ filter q (xs ++ ys)) (filter q (xs ++ ys)) ≡ cond b (x ∷ filter q xs) (filter q xs) ++ filter q ys) [ true ↦ ap (λ zs. x ∷ zs) (filter_append q xs ys) | false ↦ filter_append q xs ys ]
+
+-- one more that passes, or not
+pub filter_more : (q : Pair → Bool) (xs : List Pair) (i : ℕ) (p : Pair) → slice_get xs i ≡ Some p → filter q (take (i + 1) xs) ≡ filter q (take i xs) ++ cond (q p) (p ∷ []) []
+filter_more q xs i p e = ap (filter q) (take_last xs i p e) ∙ filter_last q (take i xs) p
 
 pub taken_whole : {A : Type 0} (xs : List A) (n : ℕ) → length xs ≤ n → take n xs ≡ xs
 taken_whole [] zero h = refl
 taken_whole [] (suc n) h = refl
 taken_whole (x ∷ xs) zero h = absurd (omega (arith, h))
 taken_whole (x ∷ xs) (suc n) h = ap (λ ys. x ∷ ys) (taken_whole xs n (omega (arith, h)))
+
+-- one of distinct pairs is none of those before it
+pub distinct_at : (xs : List Pair) (i : ℕ) (p : Pair) → slice_get xs i ≡ Some p → IsDistinct same_pair xs → has_pair p (take i xs) ≡ false
+unfolding IsDistinct
+distinct_at [] i p e h = cc
+distinct_at (x ∷ xs) zero p e h = refl
+distinct_at (x ∷ xs) (suc i) p e h =
+    let first : same_pair p x ≡ false = pair_turned p x ∙ at xs i h.0 e in
+    ap (λ b. b || has_pair p (take i xs)) first ∙ distinct_at xs i p e h.1
+  where
+    at : (ys : List Pair) (i : ℕ) → AllByRecursion (λ y. same_pair x y ≡ false) ys → slice_get ys i ≡ Some p → same_pair x p ≡ false
+    at [] i h e = cc
+    at (y ∷ ys) zero h e = let same : y ≡ p = cc in subst (λ (z : Pair). same_pair x z ≡ false) same h.0
+    at (y ∷ ys) (suc i) h e = at ys i h.1 e
 
 -- ---- members of what waits
 pub has_below : (n u : ℕ) → has_number u (below n) ≡ nat_lt u n

@@ -31,7 +31,7 @@ first-requires-clause-level g c = (subst (λ (p : PlacerRecord). IsLevelWith p c
 pub first-requires-clause-waits : goal.first-requires-clause-waits
 first-requires-clause-waits g c a u has =
     let up = subst (λ (p : PlacerRecord). IsUpToDate p.seen c.args.table.now) (sym c.self.view_is) c.requires.up in
-    let out : nat_lt 0 (out_of (asks_in c.self.inside.wishes.cells) c.args.table.now.entries a u) ≡ true = (both_true (nat_lt u (unit_count (as_known c.args.table.now.jobs) a)) (nat_lt 0 (out_of (asks_in c.self.inside.wishes.cells) c.args.table.now.entries a u)) (sym (up a u) ∙ has)).1 in
+    let out : nat_lt 0 (out_of (asks_in c.self.inside.wishes.cells) c.args.table.now.entries a u) ≡ true = (both_true _ _ (sym (up a u) ∙ has)).1 in
     grind (arith, nat_tests, out)
 
 pub first-requires-clause-rises : goal.first-requires-clause-rises
