@@ -10,7 +10,6 @@ mod deliveries;
 mod disk;
 mod halts;
 pub mod law;
-mod lines;
 mod masters;
 mod orders;
 mod promises;
@@ -21,7 +20,6 @@ mod text;
 mod turns;
 mod world;
 
-pub use lines::Lines;
 pub use promises::{cores_are_safe, quiet_parties_agree};
 pub use running::Running;
 pub use stop::WorldStop;

@@ -12,7 +12,6 @@ ghost use Rattle.schedule_replay.specs.WorldSteps.{Takes, StopsAt};
 use crate::acts::act;
 use crate::checkpoint::Checkpoint;
 use crate::law;
-use crate::lines::Lines;
 use crate::stop::WorldStop;
 use agent_core::Agent;
 use app_master::AppMaster;
@@ -86,16 +85,17 @@ impl Running {
         })
     }
 
-    /// One event, and what it prints. The event is one that a line can give, and fewer than 2^29 were taken. After a stop it is not to be used.
+    /// One event. `out` then has what it prints, and nothing that it had before. The event is one that a line can give, and fewer than 2^29
+    /// were taken. After a stop what runs is not to be used, and nothing is said of `out`.
     ///
     /// `TooManyPackets` comes where with the packets of the event more than 1,000,000 would have been sent, and then
     /// `PoolBytes` where the frames of all would have more than 2^30 bytes together. `OutOfMemory` may come in place
     /// of any answer.
-    pub fn step(&mut self, alloc: Global, event: &Event) -> Result<Lines, WorldStop>
+    pub fn step(&mut self, alloc: Global, event: &Event, out: &mut Vec<u8>) -> Result<(), WorldStop>
         requires line { IsLineEvent event.now }
         requires reached { IsReached self.old }
         requires events { self.old.events < 2 ^ 29 }
-        ensures takes { IfOk result (Takes (event_as event.now) self.old self.new) }
+        ensures takes { OnOk result (Takes (event_as event.now) self.old self.new out.new.items) }
         ensures reached { OnOk result (IsReached self.new) }
         ensures events { OnOk result (self.new.events ≡ self.old.events + 1) }
         ensures stops { IfErr result (StopsAt (event_as event.now) self.old) }
@@ -106,17 +106,14 @@ impl Running {
         law::cores_may_step();
         law::written_frame_lengths();
         self.events += 1;
-        // (most events print less, so the buffer does not grow)
-        let Ok(mut out) = Vec::with_capacity(alloc, 256) else {
-            return Err(WorldStop::OutOfMemory);
-        };
-        match act(self, alloc, event, &mut out) {
+        out.clear();
+        match act(self, alloc, event, out) {
             Ok(()) => {}
             Err(stop) => return Err(stop),
         }
         let _packets = self.pool.len();
         let _bytes = self.pool.bytes();
-        Ok(Lines::of(out))
+        Ok(())
     }
 
     /// Appends the lines of the state. A refusal leaves `out` as it was.

@@ -14,7 +14,6 @@ ghost use Rattle.schedule_replay.specs.ReplayTexts.{lines_text};
 ghost use Rattle.schedule_replay.specs.Worlds.{IsReached, IsWorld, StandsFor};
 ghost use Rattle.schedule_replay.specs.WorldSteps.{Takes, StopsAt};
 
-use crate::lines::Lines;
 use crate::running::Running;
 use crate::stop::WorldStop;
 use agent_core::Agent;
@@ -69,21 +68,22 @@ impl World {
         }
     }
 
-    /// One event, and what it prints. The event is one that a line can give, and fewer than 2^29 were taken. After a stop the world is gone.
+    /// One event. `out` then has what it prints, and nothing that it had before. The event is one that a line can give, and fewer than 2^29
+    /// were taken. After a stop the world is gone, and nothing is said of `out`.
     ///
     /// `TooManyPackets` comes where with the packets of the event more than 1,000,000 would have been sent, and then
     /// `PoolBytes` where the frames of all would have more than 2^30 bytes together. `OutOfMemory` may come in place
     /// of any answer.
-    pub fn step(self, alloc: Global, event: &Event) -> Result<(World, Lines), WorldStop>
+    pub fn step(self, alloc: Global, event: &Event, out: &mut Vec<u8>) -> Result<World, WorldStop>
         requires line { IsLineEvent event.now }
         requires events { self.events < 2 ^ 29 }
-        ensures takes { IfOk result (λ after. Takes (event_as event.now) self after.0 after.1) }
-        ensures events { IfOk result (λ after. after.0.events ≡ self.events + 1) }
+        ensures takes { IfOk result (λ after. Takes (event_as event.now) self after out.new.items) }
+        ensures events { IfOk result (λ after. after.events ≡ self.events + 1) }
         ensures stops { IfErr result (StopsAt (event_as event.now) self) }
     {
         let World { mut running } = self;
-        match running.step(alloc, event) {
-            Ok(lines) => Ok((World { running }, lines)),
+        match running.step(alloc, event, out) {
+            Ok(()) => Ok(World { running }),
             Err(stop) => Err(stop),
         }
     }

@@ -20,12 +20,14 @@ use schedule_replay::{Running, WorldStop};
 use schedule_text::read_event;
 use std::alloc::Global;
 
-// Takes a line: makes its event, and has what that prints wait, where it is not skipped. Where it is not taken what waits is written.
+// Takes a line: makes its event, and has what that prints wait, where it is not skipped. Where it is not taken what waits is written. The
+// text has what the event of the last line prints.
 fn take_line<O: Sink>(
     alloc: Global,
     running: &mut Running,
     line: &[u8],
     number: u64,
+    text: &mut Vec<u8>,
     waiting: &mut WriteBuffer,
     out: &mut O,
 ) -> Result<(), Status>
@@ -55,14 +57,14 @@ fn take_line<O: Sink>(
             Err(_) => return Err(Status::WriteFault),
         },
     };
-    let lines = match running.step(alloc, &event) {
-        Ok(lines) => lines,
+    match running.step(alloc, &event, text) {
+        Ok(()) => {}
         Err(stop) => match waiting.flush(out) {
             Ok(()) => return Err(world_status(stop)),
             Err(_) => return Err(Status::WriteFault),
         },
-    };
-    match waiting.put(out, lines.bytes()) {
+    }
+    match waiting.put(out, text) {
         Ok(()) => Ok(()),
         Err(_) => Err(Status::WriteFault),
     }
@@ -166,6 +168,8 @@ fn run_lines<S: Source, O: Sink>(
     let Ok(mut waiting) = WriteBuffer::new(alloc) else {
         return Status::OutOfMemory;
     };
+    // What an event prints: one room for all of them.
+    let mut text = Vec::new(alloc);
     for turn in 0..1_000_001u64 {
         if !lines.ended() {
             return write_state(alloc, &running, &mut waiting, out);
@@ -184,7 +188,15 @@ fn run_lines<S: Source, O: Sink>(
         }
         let number = lines.number();
         let line = content(lines.line(), lines.ended());
-        match take_line(alloc, &mut running, line, number, &mut waiting, out) {
+        match take_line(
+            alloc,
+            &mut running,
+            line,
+            number,
+            &mut text,
+            &mut waiting,
+            out,
+        ) {
             Ok(()) => {}
             Err(status) => return status,
         }

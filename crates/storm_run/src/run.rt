@@ -58,8 +58,9 @@ impl Run {
         ensures events { IfOk result (λ after. after.events ≡ self.events + 1) }
     {
         let Run { world } = self;
-        match world.step(alloc, event) {
-            Ok((world, _lines)) => Ok(Run { world }),
+        let mut text = Vec::new(alloc);
+        match world.step(alloc, event, &mut text) {
+            Ok(world) => Ok(Run { world }),
             Err(stop) => Err(stop),
         }
     }

@@ -43,13 +43,13 @@ returns-in-Err-flush-2-clause-takes g c = inl (refl, c.in-Err-flush-2.ensures.er
 pub returns-in-Ok-put-clause-takes : goal.returns-in-Ok-put-clause-takes
 returns-in-Ok-put-clause-takes g c =
     let e = c.in-Ok.event in
-    let taken = λ (w : World) (s : Stands c.args.running.now w). subst (λ (x : Event). IsTaken w x c.step.new.self c.in-Ok-step.lines) (sym (c.events_stand_anywhere.ensures e)) (c.in-Ok-step.ensures.takes w s.is s.stands) in (
-      λ w s. took_line c.args.line.now c.args.number w (anywhere e) c.step.new.self (sym c.if-is_skipped.ensures) c.in-Ok.ensures.ok c.in-Ok-step.lines c.bytes.result.now _ _ (taken w s) c.bytes.ensures c.in-Ok-put.ensures.ok,
-      λ after part. breaks_line c.args.line.now c.args.number (anywhere e) c.args.running.now c.step.new.self (sym c.if-is_skipped.ensures) c.in-Ok.ensures.ok c.in-Ok-step.lines c.bytes.result.now (g.O.Sink.took c.args.out.now) after c.args.waiting.now taken c.bytes.ensures (c.in-Ok-put.ensures.rest after part),
+    let taken = λ (w : World) (s : Stands c.args.running.now w). subst (λ (x : Event). IsTaken w x c.step.new.self c.step.new.out.items) (sym (c.events_stand_anywhere.ensures e)) (c.in-Ok-step.ensures.takes w s.is s.stands) in (
+      λ w s. took_line c.args.line.now c.args.number w (anywhere e) c.step.new.self (sym c.if-is_skipped.ensures) c.in-Ok.ensures.ok c.step.new.out.items c.step.new.out.items _ _ (taken w s) refl c.in-Ok-put.ensures.ok,
+      λ after part. breaks_line c.args.line.now c.args.number (anywhere e) c.args.running.now c.step.new.self (sym c.if-is_skipped.ensures) c.in-Ok.ensures.ok c.step.new.out.items c.step.new.out.items (g.O.Sink.took c.args.out.now) after c.args.waiting.now taken refl (c.in-Ok-put.ensures.rest after part),
     )
 
 pub returns-clause-takes : goal.returns-clause-takes
 returns-clause-takes g c =
     let e = c.in-Ok.event in
-    let taken = λ (w : World) (s : Stands c.args.running.now w). subst (λ (x : Event). IsTaken w x c.step.new.self c.in-Ok-step.lines) (sym (c.events_stand_anywhere.ensures e)) (c.in-Ok-step.ensures.takes w s.is s.stands) in
-    breaks_line c.args.line.now c.args.number (anywhere e) c.args.running.now c.step.new.self (sym c.if-is_skipped.ensures) c.in-Ok.ensures.ok c.in-Ok-step.lines c.bytes.result.now (g.O.Sink.took c.args.out.now) (g.O.Sink.took c.put.new.out) c.args.waiting.now taken c.bytes.ensures c.in-Err-put.ensures.err
+    let taken = λ (w : World) (s : Stands c.args.running.now w). subst (λ (x : Event). IsTaken w x c.step.new.self c.step.new.out.items) (sym (c.events_stand_anywhere.ensures e)) (c.in-Ok-step.ensures.takes w s.is s.stands) in
+    breaks_line c.args.line.now c.args.number (anywhere e) c.args.running.now c.step.new.self (sym c.if-is_skipped.ensures) c.in-Ok.ensures.ok c.step.new.out.items c.step.new.out.items (g.O.Sink.took c.args.out.now) (g.O.Sink.took c.put.new.out) c.args.waiting.now taken refl c.in-Err-put.ensures.err

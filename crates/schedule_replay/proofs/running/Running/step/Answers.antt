@@ -16,9 +16,6 @@ act-requires-clause-long c =
     let r : WorldRecord = record { cluster = c.self.inside.cluster; checkpoint = c.self.inside.checkpoint; masters = c.self.inside.masters; agents = c.self.inside.agents; apps = c.self.inside.apps; pool = c.self.inside.pool; events = c.self.inside.events } in
     can_move_long r (subst IsReached (sym c.self.view_is) c.requires.reached) (subst (λ (x : WorldRecord). x.events < 2 ^ 29) (sym c.self.view_is) c.requires.events)
 
-pub returns-in_default-clause-stops : goal.returns-in_default-clause-stops
-returns-in_default-clause-stops c = λ w is s. tt
-
 pub returns-in-Err-clause-stops : goal.returns-in-Err-clause-stops
 returns-in-Err-clause-stops c =
     let r : WorldRecord = record { cluster = c.self.inside.cluster; checkpoint = c.self.inside.checkpoint; masters = c.self.inside.masters; agents = c.self.inside.agents; apps = c.self.inside.apps; pool = c.self.inside.pool; events = c.self.inside.events } in
@@ -32,8 +29,8 @@ returns-clause-reached c =
     let e = event_as c.args.event.now in
     let few = subst (λ n. n ≤ most_packets) c.len-packets.ensures.len c.len-packets.ensures.within in
     let small = subst (λ n. n ≤ most_packet_bytes) c.bytes-bytes.ensures.sum c.bytes-bytes.ensures.within in
-    let t = taken_by c.every_event_keeps_good.ensures.kept c.worlds_in_order.ensures.kept c.written_frame_lengths.ensures e r c.args.self.now now c.act.new.running c.in-Ok.out.items c.act.new.out.items c.self.view_is c.self-2.view_is c.in-Ok.ensures.items (c.events_are_inputs.ensures c.args.event.now c.requires.line) few small c.in-Ok-act.ensures in
-    reached_by e r c.args.self.now c.act.new.running c.in-Ok.out.items c.act.new.out.items c.self.view_is c.in-Ok.ensures.items c.requires.reached c.in-Ok-act.ensures t
+    let t = taken_by c.every_event_keeps_good.ensures.kept c.worlds_in_order.ensures.kept c.written_frame_lengths.ensures e r c.args.self.now now c.act.new.running c.clear.new.self.items c.act.new.out.items c.self.view_is c.self-2.view_is c.clear.ensures.items (c.events_are_inputs.ensures c.args.event.now c.requires.line) few small c.in-Ok.ensures in
+    reached_by e r c.args.self.now c.act.new.running c.clear.new.self.items c.act.new.out.items c.self.view_is c.clear.ensures.items c.requires.reached c.in-Ok.ensures t
 
 pub returns-clause-takes : goal.returns-clause-takes
 returns-clause-takes c =
@@ -42,5 +39,4 @@ returns-clause-takes c =
     let e = event_as c.args.event.now in
     let few = subst (λ n. n ≤ most_packets) c.len-packets.ensures.len c.len-packets.ensures.within in
     let small = subst (λ n. n ≤ most_packet_bytes) c.bytes-bytes.ensures.sum c.bytes-bytes.ensures.within in
-    subst (Takes e c.args.self.now c.act.new.running) (sym c.of.ensures)
-    (taken_by c.every_event_keeps_good.ensures.kept c.worlds_in_order.ensures.kept c.written_frame_lengths.ensures e r c.args.self.now now c.act.new.running c.in-Ok.out.items c.act.new.out.items c.self.view_is c.self-2.view_is c.in-Ok.ensures.items (c.events_are_inputs.ensures c.args.event.now c.requires.line) few small c.in-Ok-act.ensures)
+    taken_by c.every_event_keeps_good.ensures.kept c.worlds_in_order.ensures.kept c.written_frame_lengths.ensures e r c.args.self.now now c.act.new.running c.clear.new.self.items c.act.new.out.items c.self.view_is c.self-2.view_is c.clear.ensures.items (c.events_are_inputs.ensures c.args.event.now c.requires.line) few small c.in-Ok.ensures
