@@ -1,5 +1,4 @@
-use Rattle.std.proofs.Common.{inl, inr, Option, List, ℕ, Err, refl, sym, ap, subst}
-use Rattle.fuxi_io.specs.Causes.{TakesPart}
+use Rattle.std.proofs.Common.{inl, inr, refl, sym, ap, subst}
 use Rattle.schedule_text.specs.Halting.{anywhere}
 use Rattle.schedule_text.specs.ReadEvents.{event_of}
 use Rattle.schedule_replay.specs.WorldSteps.{IsTaken, Stops, limit_of}
@@ -44,12 +43,12 @@ pub returns-in-Ok-put-clause-takes : goal.returns-in-Ok-put-clause-takes
 returns-in-Ok-put-clause-takes g c =
     let e = c.in-Ok.event in
     let taken = λ (w : World) (s : Stands c.args.running.now w). subst (λ (x : Event). IsTaken w x c.step.new.self c.step.new.out.items) (sym (c.events_stand_anywhere.ensures e)) (c.in-Ok-step.ensures.takes w s.is s.stands) in (
-      λ w s. took_line c.args.line.now c.args.number w (anywhere e) c.step.new.self (sym c.if-is_skipped.ensures) c.in-Ok.ensures.ok c.step.new.out.items c.step.new.out.items _ _ (taken w s) refl c.in-Ok-put.ensures.ok,
-      λ after part. breaks_line c.args.line.now c.args.number (anywhere e) c.args.running.now c.step.new.self (sym c.if-is_skipped.ensures) c.in-Ok.ensures.ok c.step.new.out.items c.step.new.out.items (g.O.Sink.took c.args.out.now) after c.args.waiting.now taken refl (c.in-Ok-put.ensures.rest after part),
+      λ w s. took_line c.args.line.now c.args.number w (anywhere e) c.step.new.self (sym c.if-is_skipped.ensures) c.in-Ok.ensures.ok c.step.new.out.items c.deref.result.now _ _ (taken w s) c.deref.ensures.value c.in-Ok-put.ensures.ok,
+      λ after part. breaks_line c.args.line.now c.args.number (anywhere e) c.args.running.now c.step.new.self (sym c.if-is_skipped.ensures) c.in-Ok.ensures.ok c.step.new.out.items c.deref.result.now (g.O.Sink.took c.args.out.now) after c.args.waiting.now taken c.deref.ensures.value (c.in-Ok-put.ensures.rest after part),
     )
 
 pub returns-clause-takes : goal.returns-clause-takes
 returns-clause-takes g c =
     let e = c.in-Ok.event in
     let taken = λ (w : World) (s : Stands c.args.running.now w). subst (λ (x : Event). IsTaken w x c.step.new.self c.step.new.out.items) (sym (c.events_stand_anywhere.ensures e)) (c.in-Ok-step.ensures.takes w s.is s.stands) in
-    breaks_line c.args.line.now c.args.number (anywhere e) c.args.running.now c.step.new.self (sym c.if-is_skipped.ensures) c.in-Ok.ensures.ok c.step.new.out.items c.step.new.out.items (g.O.Sink.took c.args.out.now) (g.O.Sink.took c.put.new.out) c.args.waiting.now taken refl c.in-Err-put.ensures.err
+    breaks_line c.args.line.now c.args.number (anywhere e) c.args.running.now c.step.new.self (sym c.if-is_skipped.ensures) c.in-Ok.ensures.ok c.step.new.out.items c.deref.result.now (g.O.Sink.took c.args.out.now) (g.O.Sink.took c.put.new.out) c.args.waiting.now taken c.deref.ensures.value c.in-Err-put.ensures.err
