@@ -5,6 +5,7 @@ use Rattle.std.specs.Option.{unwrap_or}
 use Rattle.std.specs.List.{AllByRecursion, list_any, dedup, dedup_from}
 use Rattle.std.specs.List.Sorted.{IsPermutation, IsStableByKey, IsStrictlySortedBy, ties}
 use Rattle.std.specs.Ordering.{nat_cmp, is_lt}
+use Rattle.std.specs.Cmp.{nat_cmp_is}
 use Rattle.std.specs.declared.cmp.Ordering.TheVariants.{Less}
 use Rattle.std.proofs.lemmas.Bool.Decides.{nat_tests}
 use Rattle.std.proofs.lemmas.List.Elements.{filter_agree}
@@ -13,6 +14,7 @@ use Rattle.std.proofs.lemmas.List.Sorted.{length_permutation}
 use Rattle.std.proofs.lemmas.Option.{slice_get_read, slice_get_within}
 use Rattle.fuxi_terms.specs.Numbers.{has_number}
 use Rattle.fuxi_terms.proofs.Booleans.{both_false, eq_turned, number_is, or_false, or_left, or_right}
+use Rattle.fuxi_terms.proofs.Alls.{all_append}
 use Rattle.broadcast.specs.OfNumbers.{of_number, AreReached}
 
 -- what stands before the run, and behind it, does not pass
@@ -77,6 +79,20 @@ has_more ns n h a lt = list_any-append (nat_eq a) ns (n ∷ []) ∙ by (nat_eq a
     by : (b : Bool) → nat_eq a n ≡ b → (has_number a ns || (b || false)) ≡ true
     by true is = or_right (has_number a ns) true refl
     by false is = or_left (has_number a ns) false (h a (grind (arith, nat_tests, is, lt)))
+
+-- ---- numbers that rise, and one more that is above them
+pub none_below : (n : ℕ) (ns : List ℕ) → ns ≡ [] → IsStrictlySortedBy nat_cmp ns × AllByRecursion (λ m. m < n) ns
+unfolding IsStrictlySortedBy
+none_below n ns is = subst (λ ns. IsStrictlySortedBy nat_cmp ns × AllByRecursion (λ m. m < n) ns) (sym is) (tt, tt)
+
+pub rise_more : (ns : List ℕ) (n : ℕ) → IsStrictlySortedBy nat_cmp ns → AllByRecursion (λ m. m < n) ns → IsStrictlySortedBy nat_cmp (ns ++ n ∷ [])
+unfolding IsStrictlySortedBy
+rise_more [] n h b = (tt, tt)
+rise_more (m ∷ ns) n h b = (all_append (λ k. nat_cmp m k ≡ Less) ns (n ∷ []) h.0 (sym (nat_cmp_is m n Less b.0), tt), rise_more ns n h.1 b.1)
+
+pub below_more : (ns : List ℕ) (n : ℕ) → AllByRecursion (λ m. m < n) ns → AllByRecursion (λ m. m < n + 1) (ns ++ n ∷ [])
+below_more [] n b = (omega arith, tt)
+below_more (m ∷ ns) n b = let lt = b.0 in (omega (arith, lt), below_more ns n b.1)
 
 -- ---- a number of those that rise is not among those before it
 pub not_before : (ns : List ℕ) (i d : ℕ) → IsStrictlySortedBy nat_cmp ns → i < length ns → has_number (get_or ns i d) (take i ns) ≡ false

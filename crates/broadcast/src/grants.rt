@@ -90,7 +90,7 @@ pub fn show_all_grants(
     Ok(())
 }
 
-// The jobs with counts, and those of the news: of no others can the grants have changed.
+// The jobs with counts, and those of the news: of no others can the grants have changed. All of them where a machine is reported.
 fn jobs_due(
     alloc: Global,
     counts: &[(usize, (Key, u64))],
@@ -100,26 +100,28 @@ fn jobs_due(
     ensures rising { IfOk result (λ due. IsStrictlySortedBy nat_cmp due.items) }
     ensures all { IfOk result (λ due. (a : ℕ) → a < jobs → has_number a due.items ≡ false → (has_number a (map (λ e. e.0) counts.now) ≡ false) × IsNotOf news.now a) }
 {
-    let named = jobs_named(alloc, news, jobs)?;
-    each_once(alloc, counts, &named)
-}
-
-// The jobs of the news: all of them where a machine is reported.
-fn jobs_named(alloc: Global, news: &News, jobs: usize) -> Result<Vec<usize>, AllocError>
-    ensures { IfOk result (λ named. (a : ℕ) → a < jobs → has_number a named.items ≡ false → IsNotOf news.now a) }
-{
     if news.reported.is_some() {
         return all_jobs(alloc, jobs);
     }
+    let named = jobs_named(alloc, news)?;
+    each_once(alloc, counts, &named)
+}
+
+// The jobs of the news where no machine is reported.
+fn jobs_named(alloc: Global, news: &News) -> Result<Vec<usize>, AllocError>
+    requires { news.now.reported ≡ None }
+    ensures { IfOk result (λ named. (a : ℕ) → has_number a named.items ≡ false → IsNotOf news.now a) }
+{
     let mut named = Vec::new(alloc);
     put_job(&mut named, news.admitted)?;
     put_job(&mut named, news.job)?;
     Ok(named)
 }
 
-// The numbers of all jobs.
+// The numbers of all jobs, from the first on.
 fn all_jobs(alloc: Global, jobs: usize) -> Result<Vec<usize>, AllocError>
-    ensures { IfOk result (λ all. (a : ℕ) → a < jobs → has_number a all.items ≡ true) }
+    ensures rising { IfOk result (λ all. IsStrictlySortedBy nat_cmp all.items) }
+    ensures all { IfOk result (λ all. (a : ℕ) → a < jobs → has_number a all.items ≡ true) }
 {
     let mut all = Vec::with_capacity(alloc, jobs)?;
     for job in 0..jobs {

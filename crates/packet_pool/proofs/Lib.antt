@@ -1,2 +1,3 @@
 pub mod FrameBytes
+pub mod PacketPoolsLemmas
 pub mod FramesReadBack

@@ -1,5 +1,5 @@
 -- The packets of a run as their frames: what is kept, when no more are taken, and what a frame is read as.
-use Rattle.std.specs.Prelude.{◌≡◌, ℕ, ◌≤◌, nat_lt, cond, List, [], ◌++◌, map, length, Option, Some, None, Result, Ok, Err}
+use Rattle.std.specs.Prelude.{◌≡◌, ℕ, ◌≤◌, nat_lt, cond, List, [], ◌∷◌, ◌++◌, map, length, slice_range, Option, Some, None, Result, Ok, Err}
 use Rattle.std.specs.List.{AllByRecursion, sum_by}
 use Rattle.fuxi_terms.specs.Limits.{most_packets, most_packet_bytes}
 use Rattle.party_ledgers.specs.declared.packets.Packet.{Packet}
@@ -25,11 +25,25 @@ with_frames p xs = record { frames = p.frames ++ map frame xs }
 abbrev pub bytes_of : List (List ℕ) → ℕ
 bytes_of frames = sum_by length frames
 
--- the limits, and the sum that is kept beside the frames
-pub record IsPool (frames : List (List ℕ)) (bytes : ℕ) : Type 0 where
-  pub few : length frames ≤ most_packets
-  pub sum : bytes ≡ bytes_of frames
-  pub within : bytes ≤ most_packet_bytes
+-- what stands from a place on up to each of these ends, one behind another
+abbrev pub pieces_from : ℕ → List ℕ → List ℕ → List (List ℕ)
+pieces_from start bytes [] = []
+pieces_from start bytes (end ∷ ends) = slice_range bytes start end ∷ pieces_from end bytes ends
+
+-- the ends come one behind another, from a place on up to the last
+abbrev pub AreEnds : ℕ → List ℕ → ℕ → Type 0
+AreEnds start [] last = start ≡ last
+AreEnds start (end ∷ ends) last = (start ≤ end) × AreEnds end ends last
+
+-- the frames that lie one behind another and end at these places
+abbrev pub frames_in : List ℕ → List ℕ → List (List ℕ)
+frames_in bytes ends = pieces_from 0 bytes ends
+
+-- the limits, and where the frames end
+pub record IsPool (bytes ends : List ℕ) : Type 0 where
+  pub few : length ends ≤ most_packets
+  pub within : length bytes ≤ most_packet_bytes
+  pub rising : AreEnds 0 ends (length bytes)
 
 -- the first limit that would be passed with these packets, and what is kept so far
 abbrev pub limit_of : Stored → List Packet → Option PoolFault

@@ -1,15 +1,14 @@
 //! The pool.
 
-ghost use Rattle.std.specs.Prelude.{◌≡◌, ◌+◌, ◌-◌, ◌<◌, ◌≤◌, ◌++◌, [], map, length, take, slice_get, Some, None, IfOk, IfErr, IfSome, IsNone, OnOk, OnErr};
-ghost use Rattle.std.specs.List.{AllByRecursion, flat_map};
+ghost use Rattle.std.specs.Prelude.{◌≡◌, ℕ, ◌+◌, ◌-◌, ◌<◌, ◌≤◌, ◌++◌, ◌∷◌, [], map, length, take, get_or, slice_get, Some, None, IfOk, IfErr, IfSome, IsNone, OnOk, OnErr};
+ghost use Rattle.std.specs.List.{AllByRecursion};
 ghost use Rattle.fuxi_terms.specs.Limits.{most_packets, most_packet_bytes};
 ghost use Rattle.party_ledgers.specs.Packets.{IsFormed};
 ghost use Rattle.wire_frames.specs.Frames.{frame};
 ghost use Rattle.wire_frames.specs.Streams.{HasFrame};
-ghost use Rattle.packet_pool.specs.PacketPools.{bytes_of, no_frames, with_frames, limit_of, Refuses, IsSized};
+ghost use Rattle.packet_pool.specs.PacketPools.{AreEnds, bytes_of, frames_in, no_frames, with_frames, limit_of, Refuses, IsSized};
 
 use crate::fault::PoolFault;
-use bytes::Bytes;
 use fuxi_terms::limits::{MOST_PACKET_BYTES, MOST_PACKETS};
 use ledger_law::OutOfMemory;
 use party_ledgers::Packet;
@@ -20,23 +19,22 @@ use wire_frames::{frame_length, write_packet};
 /// The packets of a run, as their frames in the order in which they were sent, numbered from 1: at most 1,000,000
 /// frames, of at most 2^30 bytes together. A contract sees the list of the frames.
 ///
-/// The frames that are added at once lie in one buffer, which each of them shares: no frame is copied, and none is
-/// moved later.
+/// All frames lie in one buffer, one behind another, with the place where each ends beside it.
 #[derive(Drop)]
 pub struct PacketPool {
-    frames: Vec<Bytes>,
-    // The bytes of all frames together.
-    bytes: usize,
+    bytes: Vec<u8>,
+    // Where each frame ends, which is where the next one begins.
+    ends: Vec<u32>,
 }
 
 impl Model for PacketPool {
-    ghost use Rattle.packet_pool.specs.PacketPools.{Stored, IsPool};
+    ghost use Rattle.packet_pool.specs.PacketPools.{Stored, frames_in, IsPool};
 
     ghost Value = { Stored };
 
-    ghost view = { λ p. record { frames = p.frames.items } };
+    ghost view = { λ p. record { frames = frames_in p.bytes.items p.ends.items } };
 
-    ghost invariant = { λ p. IsPool p.frames.items p.bytes };
+    ghost invariant = { λ p. IsPool p.bytes.items p.ends.items };
 }
 
 // The bytes of the frames of packets, together: so few packets that their sum fits.
@@ -53,52 +51,67 @@ fn frames_length(packets: &[Packet]) -> usize
     sum
 }
 
-// The frames of packets one behind another, in one buffer of the length that they have.
-fn write_frames(alloc: Global, packets: &[Packet], length: usize) -> Result<Vec<u8>, OutOfMemory>
-    requires formed { AllByRecursion IsFormed packets.now }
-    ensures { IfOk result (λ buffer. buffer.items ≡ flat_map frame packets.now) }
+// The frame of a packet behind those that are there, and its end. A refusal may leave bytes without an end.
+fn write_frame(packet: &Packet, bytes: &mut Vec<u8>, ends: &mut Vec<u32>) -> Result<(), OutOfMemory>
+    requires formed { IsFormed packet.now }
+    requires room { length bytes.old.items + length (frame packet.now) ≤ most_packet_bytes }
+    requires ends { AreEnds 0 ends.old.items (length bytes.old.items) }
+    ensures frames { OnOk result (frames_in bytes.new.items ends.new.items ≡ frames_in bytes.old.items ends.old.items ++ frame packet.now ∷ []) }
+    ensures ends { OnOk result (AreEnds 0 ends.new.items (length bytes.new.items)) }
+    ensures bytes_kept { take (length bytes.old.items) bytes.new.items ≡ bytes.old.items }
+    ensures ends_kept { take (length ends.old.items) ends.new.items ≡ ends.old.items }
 {
-    let Ok(mut buffer) = Vec::with_capacity(alloc, length) else {
-        return Err(OutOfMemory);
-    };
-    for packet in packets {
-        write_packet(packet, &mut buffer)?;
-    }
-    Ok(buffer)
+    write_packet(packet, bytes)?;
+    ends.push(bytes.len() as u32)?;
+    Ok(())
 }
 
-// The same buffer, to be shared by its parts.
-fn share(buffer: Vec<u8>) -> Result<Bytes, OutOfMemory>
-    ensures { IfOk result (λ shared. shared ≡ buffer.items) }
-{
-    match Bytes::from_vec(buffer) {
-        Ok(shared) => Ok(shared),
-        Err(_) => Err(OutOfMemory),
-    }
-}
-
-// Cuts the frame of each packet from the front of what is left, and puts it behind the frames that are there. A
-// refusal may leave some of them behind these.
-fn cut_frames(
+// The frames of packets behind those that are there. A refusal may leave some of them behind these.
+fn write_frames(
     packets: &[Packet],
-    mut left: Bytes,
-    frames: &mut Vec<Bytes>,
+    bytes: &mut Vec<u8>,
+    ends: &mut Vec<u32>,
 ) -> Result<(), OutOfMemory>
     requires formed { AllByRecursion IsFormed packets.now }
-    requires whole { left ≡ flat_map frame packets.now }
-    ensures ok { OnOk result (frames.new.items ≡ frames.old.items ++ map frame packets.now) }
-    ensures err { OnErr result (take (length frames.old.items) frames.new.items ≡ frames.old.items) }
+    requires room { length bytes.old.items + bytes_of (map frame packets.now) ≤ most_packet_bytes }
+    requires ends { AreEnds 0 ends.old.items (length bytes.old.items) }
+    ensures frames { OnOk result (frames_in bytes.new.items ends.new.items ≡ frames_in bytes.old.items ends.old.items ++ map frame packets.now) }
+    ensures ends { OnOk result (AreEnds 0 ends.new.items (length bytes.new.items)) }
+    ensures bytes_kept { take (length bytes.old.items) bytes.new.items ≡ bytes.old.items }
+    ensures ends_kept { take (length ends.old.items) ends.new.items ≡ ends.old.items }
 {
     for packet in packets {
-        let Ok(frame) = left.split_to(frame_length(packet)) else {
-            return Err(OutOfMemory);
-        };
-        match frames.push(frame) {
+        match write_frame(packet, bytes, ends) {
             Ok(()) => {}
-            Err(_) => return Err(OutOfMemory),
+            Err(refusal) => return Err(refusal),
         }
     }
     Ok(())
+}
+
+// Where the frame of a place begins, and where it ends, in so many bytes.
+fn bounds_of(ends: &[u32], at: usize, bytes: usize) -> (usize, usize)
+    requires there { at < length ends.now }
+    requires ends { AreEnds 0 ends.now bytes }
+    ensures is { result ≡ (get_or (0 ∷ ends.now) at 0, get_or ends.now at 0) }
+    ensures rising { result.0 ≤ result.1 }
+    ensures inside { result.1 ≤ bytes }
+{
+    let end = ends[at] as usize;
+    if at == 0 {
+        return (0, end);
+    }
+    (ends[at - 1] as usize, end)
+}
+
+// The frame of a place.
+fn frame_at<'a>(bytes: &'a [u8], ends: &[u32], at: usize) -> &'a [u8]
+    requires there { at < length ends.now }
+    requires ends { AreEnds 0 ends.now (length bytes.now) }
+    ensures { slice_get (frames_in bytes.now ends.now) at ≡ Some result.now }
+{
+    let (start, end) = bounds_of(ends, at, bytes.len());
+    &bytes[start..end]
 }
 
 impl PacketPool {
@@ -107,34 +120,36 @@ impl PacketPool {
         ensures { result ≡ no_frames }
     {
         PacketPool {
-            frames: Vec::new(alloc),
-            bytes: 0,
+            bytes: Vec::new(alloc),
+            ends: Vec::new(alloc),
         }
     }
 
-    // The first limit that these packets would pass; else the bytes of their frames.
-    fn test_limits(&self, packets: &[Packet]) -> Result<usize, PoolFault>
+    // The first limit that these packets would pass.
+    fn test_limits(&self, packets: &[Packet]) -> Result<(), PoolFault>
         requires formed { AllByRecursion IsFormed packets.now }
-        ensures sum { IfOk result (λ sum. sum ≡ bytes_of (map frame packets.now)) }
         ensures frames { OnOk result (AllByRecursion HasFrame packets.now) }
+        ensures few { OnOk result (length self.now.frames + length packets.now ≤ most_packets) }
+        ensures room { OnOk result (bytes_of self.now.frames + bytes_of (map frame packets.now) ≤ most_packet_bytes) }
         ensures within { OnOk result (limit_of self.now packets.now ≡ None) }
         ensures why { IfErr result (λ fault. Refuses (limit_of self.now packets.now) fault) }
         ensures sized { IfErr result (IsSized packets.now) }
     {
-        if packets.len() > MOST_PACKETS - self.frames.len() {
-            return Err(PoolFault::TooManyPackets { kept: self.len() });
+        let kept = self.len();
+        if packets.len() > MOST_PACKETS - kept as usize {
+            return Err(PoolFault::TooManyPackets { kept });
         }
-        let sum = frames_length(packets);
-        if sum > MOST_PACKET_BYTES - self.bytes {
-            return Err(PoolFault::PoolBytes { kept: self.bytes() });
+        let kept = self.bytes();
+        if frames_length(packets) > MOST_PACKET_BYTES - kept as usize {
+            return Err(PoolFault::PoolBytes { kept });
         }
-        Ok(sum)
+        Ok(())
     }
 
     /// The frames of these packets, in their order, behind those that are there. A fault is the first that comes in
     /// the order of [`PoolFault`], and leaves the pool as it was; want of memory comes only where no limit would be
     /// passed.
-    pub fn add(&mut self, alloc: Global, packets: &[Packet]) -> Result<(), PoolFault>
+    pub fn add(&mut self, packets: &[Packet]) -> Result<(), PoolFault>
         requires formed { AllByRecursion IsFormed packets.now }
         ensures ok { OnOk result (self.new ≡ with_frames self.old packets.now) }
         ensures frames { OnOk result (AllByRecursion HasFrame packets.now) }
@@ -143,24 +158,16 @@ impl PacketPool {
         ensures why { IfErr result (λ fault. Refuses (limit_of self.old packets.now) fault) }
         ensures sized { IfErr result (IsSized packets.now) }
     {
-        let sum = match self.test_limits(packets) {
-            Ok(sum) => sum,
+        match self.test_limits(packets) {
+            Ok(()) => {}
             Err(fault) => return Err(fault),
-        };
-        let Ok(buffer) = write_frames(alloc, packets, sum) else {
-            return Err(PoolFault::OutOfMemory);
-        };
-        let Ok(left) = share(buffer) else {
-            return Err(PoolFault::OutOfMemory);
-        };
-        let kept = self.frames.len();
-        match cut_frames(packets, left, &mut self.frames) {
-            Ok(()) => {
-                self.bytes += sum;
-                Ok(())
-            }
+        }
+        let (bytes, ends) = (self.bytes.len(), self.ends.len());
+        match write_frames(packets, &mut self.bytes, &mut self.ends) {
+            Ok(()) => Ok(()),
             Err(_) => {
-                self.frames.truncate(kept);
+                self.bytes.truncate(bytes);
+                self.ends.truncate(ends);
                 Err(PoolFault::OutOfMemory)
             }
         }
@@ -171,7 +178,7 @@ impl PacketPool {
         ensures len { result ≡ length self.now.frames }
         ensures within { result ≤ most_packets }
     {
-        self.frames.len() as u64
+        self.ends.len() as u64
     }
 
     /// How many bytes their frames have together, at most 2^30.
@@ -179,7 +186,7 @@ impl PacketPool {
         ensures sum { result ≡ bytes_of self.now.frames }
         ensures within { result ≤ most_packet_bytes }
     {
-        self.bytes as u64
+        self.bytes.len() as u64
     }
 
     /// The frame of the packet of this number, at least 1; `None` where fewer packets are kept. It takes no memory.
@@ -191,6 +198,6 @@ impl PacketPool {
         if number > self.len() {
             return None;
         }
-        Some(self.frames[(number - 1) as usize].as_slice())
+        Some(frame_at(&self.bytes, &self.ends, (number - 1) as usize))
     }
 }

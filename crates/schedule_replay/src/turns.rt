@@ -40,7 +40,6 @@ fn stop_of(fault: PoolFault) -> WorldStop
 // Keeps the packets of a turn, and prints them.
 fn send(
     pool: &mut PacketPool,
-    alloc: Global,
     packets: &[Packet],
     out: &mut Vec<u8>,
 ) -> Result<(), WorldStop>
@@ -51,7 +50,7 @@ fn send(
     ensures stops { IfErr result (StopsFor pool.old packets.now) }
 {
     let first = pool.len() + 1;
-    match pool.add(alloc, packets) {
+    match pool.add(packets) {
         Ok(()) => {}
         Err(fault) => return Err(stop_of(fault)),
     }
@@ -98,7 +97,7 @@ fn turn<P: Party>(
     let Some(packets) = answer else {
         return write_refusal(Some(Refusal::NotRunning), out);
     };
-    send(pool, alloc, packets.as_slice(), out)
+    send(pool, packets.as_slice(), out)
 }
 
 // The party of a number forgets what its peers have acknowledged.
