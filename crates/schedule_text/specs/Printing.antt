@@ -86,6 +86,12 @@ output_words line = line_words (λ x body. []) (as_line line)
 abbrev pub output_text : Output → List ℕ
 output_text line = ended (output_words line)
 
+-- a line of a packet that is sent or heard
+abbrev pub is_of_packet : Output → Bool
+is_of_packet (out.Sent number from to kind inc seq bytes) = true
+is_of_packet (out.Heard number fresh what) = true
+is_of_packet line = false
+
 -- a line of what a master, an agent or an application has
 abbrev pub is_entry : Output → Bool
 is_entry (out.Sent number from to kind inc seq bytes) = false

@@ -11,6 +11,7 @@ mod number;
 mod output;
 mod read;
 mod refusal;
+mod tail;
 mod word;
 mod write;
 

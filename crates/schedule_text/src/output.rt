@@ -1,12 +1,13 @@
 //! The lines that are printed.
 
-ghost use Rattle.std.specs.Prelude.{◌≡◌, ◌++◌, ◌∷◌, [], true, Bool, List, ℕ, cond, codes, map, OnOk, OnErr, decimal};
+ghost use Rattle.std.specs.Prelude.{◌≡◌, ◌+◌, ◌≤◌, ◌++◌, ◌∷◌, [], true, false, cond, codes, length, map, OnOk, OnErr, decimal};
 ghost use Rattle.hex.specs.Hex.{encode_lower};
 ghost use Rattle.schedule_text.specs.PrintedLines.{party_word, place_word, kind_word, what_word, frame_words, ended};
-ghost use Rattle.schedule_text.specs.Printing.{as_party, as_kind, is_entry, output_words, output_text};
+ghost use Rattle.schedule_text.specs.Printing.{as_party, as_kind, is_of_packet, is_entry, output_words, output_text};
 ghost use Rattle.schedule_text.specs.Writing.{blanked, spaced, Begins};
 
 use crate::refusal::{Refusal, push_refusal};
+use crate::tail::Tail;
 use crate::write::{push_blanked, push_numbers};
 use fuxi_terms::{OutOfMemory, What};
 use schedule_unit::{AppNo, GroupNo, MachineNo, Party, Role, UnitNo, write_number};
@@ -88,6 +89,33 @@ pub fn write_output(line: &Output, out: &mut Vec<u8>) -> Result<(), OutOfMemory>
     ensures ok { OnOk result (out.new.items ≡ out.old.items ++ output_text line.now) }
     ensures err { OnErr result (out.new.items ≡ out.old.items) }
 {
+    match line {
+        Output::Sent {
+            number,
+            from,
+            to,
+            kind,
+            inc,
+            seq,
+            bytes,
+        } => {
+            let line = sent_line(*number, from, to, *kind, *inc, *seq, *bytes);
+            Ok(out.extend_from_slice(line.as_slice())?)
+        }
+        Output::Heard(number, fresh, what) => {
+            let line = heard_line(*number, *fresh, what);
+            Ok(out.extend_from_slice(line.as_slice())?)
+        }
+        _ => write_other(line, out),
+    }
+}
+
+// The same of a line that is neither of a packet that is sent nor of one that is heard.
+fn write_other(line: &Output, out: &mut Vec<u8>) -> Result<(), OutOfMemory>
+    requires { is_of_packet line.now ≡ false }
+    ensures ok { OnOk result (out.new.items ≡ out.old.items ++ output_text line.now) }
+    ensures err { OnErr result (out.new.items ≡ out.old.items) }
+{
     let length = out.len();
     match push_ended(line, out) {
         Ok(()) => Ok(()),
@@ -96,6 +124,40 @@ pub fn write_output(line: &Output, out: &mut Vec<u8>) -> Result<(), OutOfMemory>
             Err(refusal)
         }
     }
+}
+
+// The line of a packet that is sent.
+fn sent_line(
+    number: u64,
+    from: &Party,
+    to: &Party,
+    kind: Kind,
+    inc: u64,
+    seq: u64,
+    bytes: u64,
+) -> Tail
+    ensures { result ≡ ended (codes "sent" ∷ decimal number ∷ party_word (as_party from.now) ∷ party_word (as_party to.now) ∷ kind_word (as_kind kind) ∷ place_word inc seq ∷ decimal bytes ∷ []) }
+{
+    let mut line = Tail::new();
+    line.put(b'\n');
+    line.put_number(bytes);
+    line.put(b' ');
+    put_sent(&mut line, from, to, kind, inc, seq);
+    line.put_number(number);
+    line.put_word(b"sent ");
+    line
+}
+
+// The line of a packet that is heard.
+fn heard_line(number: u64, fresh: bool, what: &What) -> Tail
+    ensures { result ≡ ended (codes "heard" ∷ decimal number ∷ cond fresh (codes "new" ∷ what_word what.now ∷ []) (what_word what.now ∷ [])) }
+{
+    let mut line = Tail::new();
+    line.put(b'\n');
+    put_heard(&mut line, fresh, what);
+    line.put_number(number);
+    line.put_word(b"heard ");
+    line
 }
 
 /// Appends the line of a packet's frame, in hexadecimal digits, and a newline. Leaves `out` as it was where
@@ -129,6 +191,7 @@ fn push_frame(number: u64, digits: &[u8], out: &mut Vec<u8>) -> Result<(), OutOf
 }
 
 fn push_ended(line: &Output, out: &mut Vec<u8>) -> Result<(), OutOfMemory>
+    requires { is_of_packet line.now ≡ false }
     ensures ok { OnOk result (out.new.items ≡ out.old.items ++ output_text line.now) }
     ensures err { OnErr result (Begins out.old.items out.new.items) }
 {
@@ -137,27 +200,11 @@ fn push_ended(line: &Output, out: &mut Vec<u8>) -> Result<(), OutOfMemory>
 }
 
 fn push_output(line: &Output, out: &mut Vec<u8>) -> Result<(), OutOfMemory>
+    requires { is_of_packet line.now ≡ false }
     ensures ok { OnOk result (out.new.items ≡ out.old.items ++ spaced (output_words line.now)) }
     ensures err { OnErr result (Begins out.old.items out.new.items) }
 {
     match line {
-        Output::Sent {
-            number,
-            from,
-            to,
-            kind,
-            inc,
-            seq,
-            bytes,
-        } => {
-            push_numbered(out, b"sent", &[*number])?;
-            push_sent(out, from, to, *kind, *inc, *seq)?;
-            push_numbers(out, &[*bytes])
-        }
-        Output::Heard(number, fresh, what) => {
-            push_numbered(out, b"heard", &[*number])?;
-            push_heard(out, *fresh, what)
-        }
         Output::Lost(number) => push_word(out, b"heard", &[*number], b"lost"),
         Output::Halted(epoch, written) => push_word(
             out,
@@ -298,10 +345,9 @@ pub fn push_sent(
     ensures ok { OnOk result (out.new.items ≡ out.old.items ++ blanked (party_word (as_party from.now) ∷ party_word (as_party to.now) ∷ kind_word (as_kind kind) ∷ place_word inc seq ∷ [])) }
     ensures err { OnErr result (Begins out.old.items out.new.items) }
 {
-    push_party(out, from)?;
-    push_party(out, to)?;
-    push_blanked(out, kind_name(kind))?;
-    push_place(out, inc, seq)
+    let mut words = Tail::new();
+    put_sent(&mut words, from, to, kind, inc, seq);
+    Ok(out.extend_from_slice(words.as_slice())?)
 }
 
 /// Appends how a packet was heard, behind its number.
@@ -309,14 +355,40 @@ pub fn push_heard(out: &mut Vec<u8>, fresh: bool, what: &What) -> Result<(), Out
     ensures ok { OnOk result (out.new.items ≡ out.old.items ++ blanked (cond fresh (codes "new" ∷ what_word what.now ∷ []) (what_word what.now ∷ []))) }
     ensures err { OnErr result (Begins out.old.items out.new.items) }
 {
+    let mut words = Tail::new();
+    put_heard(&mut words, fresh, what);
+    Ok(out.extend_from_slice(words.as_slice())?)
+}
+
+// What a packet of a turn is, in front of a line's end.
+fn put_sent(line: &mut Tail, from: &Party, to: &Party, kind: Kind, inc: u64, seq: u64)
+    requires room { length line.old ≤ 40 }
+    ensures is { line.new ≡ blanked (party_word (as_party from.now) ∷ party_word (as_party to.now) ∷ kind_word (as_kind kind) ∷ place_word inc seq ∷ []) ++ line.old }
+    ensures short { length line.new ≤ length line.old + 160 }
+{
+    put_place(line, inc, seq);
+    line.put_word(kind_name(kind));
+    line.put(b' ');
+    put_party(line, to);
+    put_party(line, from);
+}
+
+// How a packet was heard, in front of a line's end.
+fn put_heard(line: &mut Tail, fresh: bool, what: &What)
+    requires room { length line.old ≤ 40 }
+    ensures is { line.new ≡ blanked (cond fresh (codes "new" ∷ what_word what.now ∷ []) (what_word what.now ∷ [])) ++ line.old }
+    ensures short { length line.new ≤ length line.old + 20 }
+{
+    line.put_word(what_name(what));
+    line.put(b' ');
     if fresh {
-        push_blanked(out, b"new")?;
+        line.put_word(b" new");
     }
-    push_blanked(out, what_name(what))
 }
 
 fn kind_name(kind: Kind) -> &'static [u8]
-    ensures { result.now ≡ kind_word (as_kind kind) }
+    ensures name { result.now ≡ kind_word (as_kind kind) }
+    ensures short { length result.now ≤ 5 }
 {
     match kind {
         Kind::Ack => b"ack",
@@ -326,7 +398,8 @@ fn kind_name(kind: Kind) -> &'static [u8]
 }
 
 fn what_name(what: &What) -> &'static [u8]
-    ensures { result.now ≡ what_word what.now }
+    ensures name { result.now ≡ what_word what.now }
+    ensures short { length result.now ≤ 8 }
 {
     match what {
         What::Stranger => b"stranger",
@@ -341,26 +414,39 @@ fn what_name(what: &What) -> &'static [u8]
     }
 }
 
-fn push_party(out: &mut Vec<u8>, party: &Party) -> Result<(), OutOfMemory>
-    ensures ok { OnOk result (out.new.items ≡ out.old.items ++ blanked (party_word (as_party party.now) ∷ [])) }
-    ensures err { OnErr result (Begins out.old.items out.new.items) }
+fn put_party(line: &mut Tail, party: &Party)
+    requires room { length line.old ≤ 140 }
+    ensures is { line.new ≡ blanked (party_word (as_party party.now) ∷ []) ++ line.old }
+    ensures short { length line.new ≤ length line.old + 50 }
 {
+    line.put_number(party.inc);
     match party.role {
-        Role::Master => push_blanked(out, b"master/")?,
-        Role::Agent => push_named(out, b"agent/", party.number)?,
-        Role::App => push_named(out, b"app/", party.number)?,
+        Role::Master => line.put_word(b" master/"),
+        Role::Agent => put_named(line, b" agent/", party.number),
+        Role::App => put_named(line, b" app/", party.number),
     }
-    write_number(party.inc, out)
 }
 
 // The name and the number of a party, up to its incarnation.
-fn push_named(out: &mut Vec<u8>, name: &[u8], number: u32) -> Result<(), OutOfMemory>
-    ensures ok { OnOk result (out.new.items ≡ out.old.items ++ blanked ((name.now ++ (decimal number ++ codes "/")) ∷ [])) }
-    ensures err { OnErr result (Begins out.old.items out.new.items) }
+fn put_named(line: &mut Tail, name: &[u8], number: u32)
+    requires room { length line.old + length name.now ≤ 200 }
+    ensures is { line.new ≡ name.now ++ (decimal number ++ (codes "/" ++ line.old)) }
+    ensures short { length line.new ≤ length line.old + length name.now + 21 }
 {
-    push_blanked(out, name)?;
-    write_number(number as u64, out)?;
-    Ok(out.push(b'/')?)
+    line.put(b'/');
+    line.put_number(number as u64);
+    line.put_word(name);
+}
+
+fn put_place(line: &mut Tail, inc: u64, seq: u64)
+    requires room { length line.old ≤ 200 }
+    ensures is { line.new ≡ blanked (place_word inc seq ∷ []) ++ line.old }
+    ensures short { length line.new ≤ length line.old + 42 }
+{
+    line.put_number(seq);
+    line.put(b'.');
+    line.put_number(inc);
+    line.put(b' ');
 }
 
 /// Appends a place, with a blank before it.

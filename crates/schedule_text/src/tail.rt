@@ -1,0 +1,80 @@
+//! A line that is put together from its end, so that it goes behind others at once.
+
+ghost use Rattle.std.specs.Prelude.{◌≡◌, ◌+◌, ◌≤◌, ◌++◌, ◌∷◌, [], length, decimal};
+
+use std::marker::Model;
+
+// No line but those of an event and of a frame is longer.
+const MOST_BYTES: usize = 256;
+
+/// The end of a line, in front of which more is put. It takes no memory.
+#[derive(Drop)]
+pub(crate) struct Tail {
+    bytes: [u8; MOST_BYTES],
+    // What stands before this place is not used yet.
+    from: usize,
+}
+
+impl Model for Tail {
+    ghost use Rattle.std.specs.Prelude.{ℕ, List, ◌≤◌, drop};
+
+    ghost Value = { List ℕ };
+
+    ghost view = { λ t. drop t.from t.bytes };
+
+    ghost invariant = { λ t. t.from ≤ 256 };
+}
+
+impl Tail {
+    /// Nothing yet.
+    pub(crate) fn new() -> Tail
+        ensures { result ≡ [] }
+    {
+        Tail {
+            bytes: [0; MOST_BYTES],
+            from: MOST_BYTES,
+        }
+    }
+
+    /// What it is so far.
+    pub(crate) fn as_slice(&self) -> &[u8]
+        ensures { result.now ≡ self.now }
+    {
+        &self.bytes[self.from..]
+    }
+
+    /// A byte in front.
+    pub(crate) fn put(&mut self, byte: u8)
+        requires room { length self.old + 1 ≤ 256 }
+        ensures is { self.new ≡ byte ∷ self.old }
+        ensures long { length self.new ≡ length self.old + 1 }
+    {
+        self.from -= 1;
+        self.bytes[self.from] = byte;
+    }
+
+    /// A word in front.
+    pub(crate) fn put_word(&mut self, word: &[u8])
+        requires room { length self.old + length word.now ≤ 256 }
+        ensures is { self.new ≡ word.now ++ self.old }
+        ensures long { length self.new ≡ length self.old + length word.now }
+    {
+        let end = self.from;
+        self.from -= word.len();
+        self.bytes[self.from..end].copy_from_slice(word);
+    }
+
+    /// A number in front.
+    pub(crate) fn put_number(&mut self, number: u64)
+        requires room { length self.old + 20 ≤ 256 }
+        ensures is { self.new ≡ decimal number ++ self.old }
+        ensures short { length self.new ≤ length self.old + 20 }
+    {
+        let mut left = number;
+        while left >= 10 {
+            self.put(b'0' + (left % 10) as u8);
+            left /= 10;
+        }
+        self.put(b'0' + left as u8);
+    }
+}
