@@ -1,6 +1,6 @@
 //! Of which jobs something was told since the line was brought up to date.
 
-ghost use Rattle.std.specs.Prelude.{◌≡◌, ℕ, ◌<◌, ◌≤◌, ◌&&◌, ◌||◌, true, false, not, nat_lt, length};
+ghost use Rattle.std.specs.Prelude.{◌≡◌, ℕ, ◌≤◌, ◌&&◌, ◌||◌, false, not, nat_lt, length};
 ghost use Rattle.std.proofs.Common.{get_or};
 
 use fuxi_terms::OutOfMemory;
