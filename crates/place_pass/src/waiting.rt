@@ -1,7 +1,7 @@
 //! The next line: who leaves it, and who begins to wait. Only the jobs are asked of which something was told since. No call takes
 //! memory.
 
-ghost use Rattle.std.specs.Prelude.{◌≡◌, ℕ, ◌+◌, ◌<◌, ◌≤◌, ◌++◌, ◌∷◌, [], ◌&&◌, ◌||◌, ◌-◌, ◌^◌, Some, slice_get, true, false, not, cond, nat_eq, nat_lt, length, filter, map};
+ghost use Rattle.std.specs.Prelude.{◌≡◌, ℕ, ◌+◌, ◌<◌, ◌≤◌, ◌++◌, ◌∷◌, [], ◌&&◌, ◌||◌, ◌-◌, ◌^◌, Some, slice_get, false, not, cond, nat_eq, nat_lt, length, filter, map};
 ghost use Rattle.std.proofs.Common.{get_or};
 ghost use Rattle.fuxi_terms.specs.Cluster.{JobRecord};
 ghost use Rattle.fuxi_terms.specs.Jobs.{unit_count};
