@@ -30,10 +30,6 @@ still_calm calm calm' n a is t = let b = both_true (not (nat_eq n a)) (get_or ca
     off true e = cc
     off false e = refl
 
-pub one_stirred : (x y : Bool) → cond x false y ≡ (not x && y)
-one_stirred true y = refl
-one_stirred false y = refl
-
 -- ---- who leaves
 pub filter_all : (q : Pair → Bool) (xs : List Pair) → ((p : Pair) → has_pair p xs ≡ true → q p ≡ true) → filter q xs ≡ xs
 filter_all q [] h = refl
