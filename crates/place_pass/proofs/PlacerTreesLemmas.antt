@@ -272,3 +272,9 @@ module _ (c : ClusterRecord) (cells : List (List Cell)) (waits now : Pair → Bo
 
   pub begun_others : t' ≡ refreshed t (entry_for cells turns a u) true → (b v : ℕ) → v < 8 → same_pair (b, v) (a, u) ≡ false → unit_at t' b v ≡ unit_at t b v
   begun_others is b v lv f = unit_there t t' a u begun_state is (within_places t (unit_number a u) width) (unit_number b v) (numbers_apart a u b v lu lv f)
+
+  -- a unit that did not wait stood in no queue, and now stands in that of the cluster alone
+  pub begun_nowhere : waits (a, u) ≡ false → t' ≡ refreshed t (entry_for cells turns a u) true → (place : ℕ) → place < cluster_place t.racks → get_or (unit_at t' a u).stands place false ≡ false
+  begun_nowhere none is place lt =
+      let d : place ≢ cluster_place t.racks = omega (arith, lt) in
+      ap (λ (s : UnitState). get_or s.stands place false) (unit_here t t' a u begun_state is (within_places t (unit_number a u) width)) ∙ get_or-set_other (unit_at t a u).stands (cluster_place t.racks) place true false d ∙ h.nowhere a u place lu none

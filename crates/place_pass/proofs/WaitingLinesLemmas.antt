@@ -10,8 +10,8 @@ use Rattle.std.proofs.lemmas.Map.Made.{length-le_from_is_member}
 use Rattle.std.specs.Option.{option_map, unwrap_or}
 use Rattle.fuxi_terms.specs.Cluster.{JobRecord}
 use Rattle.fuxi_terms.specs.Jobs.{KnownJob, job_of, unit_count}
-use Rattle.fuxi_terms.proofs.Lists.{all_at, length-below, take_last}
-use Rattle.grant_table.specs.GrantTables.{as_known, AreJobs}
+use Rattle.fuxi_terms.proofs.Lists.{length-below}
+use Rattle.grant_table.specs.GrantTables.{as_known}
 use Rattle.fuxi_terms.specs.Lists.{below}
 use Rattle.fuxi_terms.specs.Numbers.{has_number}
 use Rattle.fuxi_terms.proofs.Booleans.{both_true, number_is, nat_itself, or_right, and_false}
@@ -76,20 +76,9 @@ has_filter q p (x ∷ xs) = elim (same_pair p x) as (λ b. same_pair p x ≡ b �
   ]
 ] refl
 
-filter_last : {A : Type 0} (q : A → Bool) (xs : List A) (x : A) → filter q (xs ++ x ∷ []) ≡ filter q xs ++ cond (q x) (x ∷ []) []
-filter_last q [] x = refl
-filter_last q (y ∷ ys) x = elim (q y) as (λ b. cond b (y ∷ filter q (ys ++ x ∷ [])) (filter q (ys ++ x ∷ [])) ≡ cond b (y ∷ filter q ys) (filter q ys) ++ cond (q x) (x ∷ []) []) [
-  | true ↦ ap (λ zs. y ∷ zs) (filter_last q ys x)
-  | false ↦ filter_last q ys x
-]
-
 pub filter_append : {A : Type 0} (q : A → Bool) (xs ys : List A) → filter q (xs ++ ys) ≡ filter q xs ++ filter q ys
 filter_append q [] ys = refl
 filter_append q (x ∷ xs) ys = elim (q x) as (λ b. cond b (x ∷ filter q (xs ++ ys)) (filter q (xs ++ ys)) ≡ cond b (x ∷ filter q xs) (filter q xs) ++ filter q ys) [ true ↦ ap (λ zs. x ∷ zs) (filter_append q xs ys) | false ↦ filter_append q xs ys ]
-
--- one more that passes, or not
-pub filter_more : (q : Pair → Bool) (xs : List Pair) (i : ℕ) (p : Pair) → slice_get xs i ≡ Some p → filter q (take (i + 1) xs) ≡ filter q (take i xs) ++ cond (q p) (p ∷ []) []
-filter_more q xs i p e = ap (filter q) (take_last xs i p e) ∙ filter_last q (take i xs) p
 
 pub taken_whole : {A : Type 0} (xs : List A) (n : ℕ) → length xs ≤ n → take n xs ≡ xs
 taken_whole [] zero h = refl
@@ -167,10 +156,6 @@ has_flat units w a u (b ∷ bs) =
     absorbed true h = refl
     absorbed false true = refl
     absorbed false false = refl
-
-pub flat_append : {A B : Type 0} (f : A → List B) (xs ys : List A) → flat_map f (xs ++ ys) ≡ flat_map f xs ++ flat_map f ys
-flat_append f [] ys = refl
-flat_append f (x ∷ xs) ys = ap (λ zs. f x ++ zs) (flat_append f xs ys) ∙ sym (append_assoc (f x) (flat_map f xs) (flat_map f ys))
 
 -- ---- room
 pairs_from : ℕ → List (List Cell) → List Pair
@@ -269,18 +254,7 @@ none_yet a n w = has_mapped a a n w (below n) ∙ ap (λ b. nat_eq a a && (b && 
     off true = refl
     off false = refl
 
--- ---- the numbers of jobs that stand in order
-pub rising_apart : (js : List JobRecord) (i : ℕ) (j : JobRecord) → AreJobs js → slice_get js i ≡ Some j → has_number j.number (map (λ (k : JobRecord). k.number) (take i js)) ≡ false
-rising_apart [] i j h e = cc
-rising_apart (k ∷ ks) zero j h e = refl
-rising_apart (k ∷ ks) (suc i) j h e =
-    let lt : k.number < j.number = all_at (λ (x : JobRecord). k.number < x.number) ks i j h.1.0 e in
-    let f : nat_eq j.number k.number ≡ false = grind (arith, nat_tests, lt) in
-    ap (λ b. b || has_number j.number (map (λ (k : JobRecord). k.number) (take i ks))) f ∙ rising_apart ks i j h.1.1 e
-
-pub numbers_more : (js : List JobRecord) (i : ℕ) (j : JobRecord) → slice_get js i ≡ Some j → map (λ (k : JobRecord). k.number) (take (i + 1) js) ≡ map (λ (k : JobRecord). k.number) (take i js) ++ j.number ∷ []
-numbers_more js i j e = ap (map (λ (k : JobRecord). k.number)) (take_last js i j e) ∙ map-append (λ (k : JobRecord). k.number) (take i js) (j ∷ [])
-
+-- ---- the numbers of jobs
 -- a job with a unit is among the numbers
 pub known_number : (js : List JobRecord) (a : ℕ) → 0 < unit_count (as_known js) a → has_number a (map (λ (k : JobRecord). k.number) js) ≡ true
 known_number [] a lt = absurd (omega (arith, lt))

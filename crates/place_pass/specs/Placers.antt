@@ -191,7 +191,7 @@ pub record IsSetFrom (before after : TableRecord) (s : Spot) : Type 0 where
 abbrev pub placer_record : WishesRecord → LineRecord → ℕ → Bool → List MarkRecord → List ℕ → List ℕ → TreeRecord → Bool → List Bool → PlacerRecord
 placer_record w line turns idle marks turn_of held tree forgotten calm = record { seen = record { cluster = w.cluster; cells = w.cells; opened = w.opened; line = line.pairs; turns = turns }; idle = idle; kept = record { marks = marks; turn_of = turn_of; held = held }; tree = tree; forgotten = forgotten; calm = calm }
 
-pub record IsPlacer (w : WishesRecord) (line : LineRecord) (units marks : ℕ) (turn_of : List ℕ) (held : ℕ) (tree : TreeRecord) (calm : ℕ) : Type 0 where
+pub record IsPlacer (w : WishesRecord) (line : LineRecord) (units marks : ℕ) (turn_of : List ℕ) (held : ℕ) (tree : TreeRecord) : Type 0 where
   pub admitted : AllByRecursion (λ (p : Pair). p.1 < length (get_or w.cells p.0 [])) line.pairs
   pub places : length w.cells ≡ most_jobs
   pub counted : units ≡ units_in_all w.cells
@@ -199,7 +199,6 @@ pub record IsPlacer (w : WishesRecord) (line : LineRecord) (units marks : ℕ) (
   pub marked : marks ≡ length w.cluster.machines
   pub turn_places : length turn_of ≡ unit_places
   pub held_places : held ≡ unit_places
-  pub calm_places : calm ≡ most_jobs
   pub rises : IsRising (λ (p : Pair). turn_at turn_of p.0 p.1) line.pairs
   pub holds : HoldsLine w.cluster w.cells line.pairs turn_of tree
 

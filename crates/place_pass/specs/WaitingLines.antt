@@ -1,5 +1,5 @@
 -- A line of pairs of a job and a unit, and its room.
-use Rattle.std.specs.Prelude.{◌≡◌, ℕ, ◌+◌, ◌*◌, ◌<◌, Bool, true, false, nat_eq, nat_lt, ◌&&◌, List, length, map, filter, vec_capacity}
+use Rattle.std.specs.Prelude.{◌≡◌, ℕ, ◌+◌, ◌*◌, ◌<◌, ◌≤◌, Bool, true, false, nat_eq, nat_lt, ◌&&◌, List, length, map, filter, vec_capacity}
 use Rattle.std.specs.Global.{Vec}
 use Rattle.std.specs.List.{IsDistinct, sum_by}
 use Rattle.std.proofs.Common.{get_or}
@@ -29,6 +29,13 @@ pub record IsLine (pairs : List Pair) (waits : List Bool) : Type 0 where
   pub places : length waits ≡ unit_places
   pub there : (a u : ℕ) → has_pair (a, u) pairs ≡ true → (a < most_jobs) × (u < most_units)
   pub waiting : (a u : ℕ) → a < most_jobs → u < most_units → get_or waits (a * 8 + u) false ≡ has_pair (a, u) pairs
+
+-- by job number whether nothing was told of the job, and each is calm whose number is below the one or not below the other
+pub record IsCalm (flags : List Bool) (low high : ℕ) : Type 0 where
+  pub places : length flags ≡ most_jobs
+  pub inside : high ≤ most_jobs
+  pub before : (a : ℕ) → a < low → a < most_jobs → get_or flags a false ≡ true
+  pub behind : (a : ℕ) → high ≤ a → a < most_jobs → get_or flags a false ≡ true
 
 -- how many units are admitted
 abbrev pub units_in_all : List (List Cell) → ℕ

@@ -1,9 +1,9 @@
 //! Which units of a job a demand asks otherwise of than the last one did.
 
-ghost use Rattle.std.specs.Prelude.{◌≡◌, ℕ, ◌<◌, ◌≤◌, true, false, length};
-ghost use Rattle.std.proofs.Common.{get_or};
+ghost use Rattle.std.specs.Prelude.{◌≡◌, ◌<◌, true, length};
 ghost use Rattle.place_pass.specs.Cells.{cell_of, numbers_at, racks_at, taken};
 
+use crate::sparse::is_clear;
 use crate::wishes::{Wish, Wishes, next_asked, number_at, rack_number};
 use cluster_desc::Cluster;
 use fuxi_terms::Key;
@@ -49,18 +49,6 @@ fn asks_the_same(wish: &Wish, unit: u8, cluster: &Cluster, demand: &Demand) -> b
         return false;
     }
     has_numbers(&wish.avoided, machines, demand, AVOID, unit)
-}
-
-// Whether 0 stands from one place on to another. No branch in the loop: the places are compared several at once.
-fn is_clear(numbers: &Vec<u32>, from: u32, to: u32) -> bool
-    requires { to ≤ length numbers.now.items }
-    ensures { result ≡ true → (k : ℕ) → from ≤ k → k < to → get_or numbers.now.items k 0 ≡ 0 }
-{
-    let mut clear = true;
-    for place in from..to {
-        clear &= numbers[place as usize] == 0;
-    }
-    clear
 }
 
 // Whether these are what a demand has of a kind at each machine. The walk goes from one that it names to the next.

@@ -1,14 +1,14 @@
 //! The placer.
 
+use crate::calm::Calm;
 use crate::line::Line;
 use crate::marks::{Marks, forget_groups, reset_one, tell};
 use crate::scope::{scope_of, tell_marks, tell_tree};
 use crate::search::{first, slot};
 use crate::standing::{enter_line, tell_spot};
-use crate::waiting::{calm_all, join, leave, leave_unit, number_from, stir};
+use crate::waiting::{join, leave, leave_unit, number_from};
 use crate::wishes::{UNIT_PLACES, Wishes, fresh_units};
 use cluster_desc::Cluster;
-use fuxi_terms::limits::MOST_JOBS;
 use fuxi_terms::{Key, OutOfMemory};
 use grant_table::{Asking, GrantTable, Pick, Steps, law};
 use locality_tree::Tree;
@@ -40,8 +40,8 @@ pub struct Placer {
     tree: Tree,
     /// While the placer is idle: whether groups were forgotten where that can be, and the line lost no pair since.
     forgotten: bool,
-    /// By job number: nothing was told of the job since the line was brought up to date.
-    calm: Vec<bool>,
+    /// Of which jobs nothing was told since the line was brought up to date.
+    calm: Calm,
 }
 
 // Written out, so that who lets one go checks this call and not all of its parts.
@@ -68,11 +68,11 @@ impl Model for Placer {
 
     ghost Value = { PlacerRecord };
 
-    ghost view = { λ p. placer_record p.wishes p.line p.turns p.idle p.marks p.turn_of.items p.held.items p.tree p.forgotten p.calm.items };
+    ghost view = { λ p. placer_record p.wishes p.line p.turns p.idle p.marks p.turn_of.items p.held.items p.tree p.forgotten p.calm };
 
     ghost use Rattle.std.specs.Prelude.{length};
 
-    ghost invariant = { λ p. IsPlacer p.wishes p.line p.units (length p.marks) p.turn_of.items (length p.held.items) p.tree (length p.calm.items) };
+    ghost invariant = { λ p. IsPlacer p.wishes p.line p.units (length p.marks) p.turn_of.items (length p.held.items) p.tree };
 }
 
 impl Placer {
@@ -103,7 +103,7 @@ impl Placer {
         let turn_of = Vec::from_elem(alloc, 0, UNIT_PLACES)?;
         let held = Vec::from_elem(alloc, 0, UNIT_PLACES)?;
         let tree = Tree::start(alloc, cluster)?;
-        let calm = Vec::from_elem(alloc, false, MOST_JOBS as usize)?;
+        let calm = Calm::new(alloc)?;
         let line = Line::new(alloc)?;
         Ok(Placer {
             wishes,
@@ -140,7 +140,7 @@ impl Placer {
         let fresh = fresh_units(alloc, job, machines)?;
         self.tree.admit(alloc, job)?;
         self.wishes.add_job(job, fresh);
-        stir(&mut self.calm, job.app());
+        self.calm.stir(job.app());
         self.units = units;
         Ok(())
     }
@@ -173,7 +173,7 @@ impl Placer {
         let scope = scope_of(&self.wishes, app, demand, changes);
         tell_marks(&mut self.marks, &self.wishes, app, demand, &scope);
         let more = self.wishes.hear(app, demand, &scope);
-        stir(&mut self.calm, app);
+        self.calm.stir(app);
         self.idle &= !more;
         tell_tree(
             &mut self.tree,
@@ -203,7 +203,7 @@ impl Placer {
         self.idle = false;
         let _wishes = self.wishes.cluster();
         let place = slot(app, unit);
-        stir(&mut self.calm, app);
+        self.calm.stir(app);
         tell(
             &mut self.marks,
             &self.wishes,
@@ -297,7 +297,7 @@ impl Placer {
             table,
             stayed,
         );
-        calm_all(&mut self.calm);
+        self.calm.calm_all();
         self.turns += (self.line.len() - stayed) as u64;
         self.forgotten &= stayed == before;
     }

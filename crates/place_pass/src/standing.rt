@@ -8,7 +8,7 @@ ghost use Rattle.fuxi_terms.specs.Tables.{spot};
 ghost use Rattle.fuxi_terms.specs.Keys.{Pair};
 ghost use Rattle.written_roles.specs.Placing.{has_pair};
 ghost use Rattle.grant_table.specs.GrantTables.{TableRecord, as_known};
-ghost use Rattle.locality_tree.specs.Trees.{unit_at, unit_number, rack_place};
+ghost use Rattle.locality_tree.specs.Trees.{unit_at, unit_number, rack_place, cluster_place};
 ghost use Rattle.place_pass.specs.Best.{AreAdmitted};
 ghost use Rattle.place_pass.specs.Bounds.{IsRising, turn_at};
 ghost use Rattle.place_pass.specs.Cells.{cell_of, job_at, unit_places};
@@ -17,6 +17,7 @@ ghost use Rattle.place_pass.specs.PlacerTrees.{HoldsLine, AllStand, StandsAs, Wa
 
 use crate::line::Line;
 use crate::search::turn_of_unit;
+use crate::sparse::first_some;
 use crate::wishes::{Wish, Wishes};
 use fuxi_terms::limits::MOST_RACKS;
 use grant_table::GrantTable;
@@ -167,6 +168,64 @@ fn mark_unit(tree: &mut Tree, entry: &Entry, wishes: &Wishes, table: &GrantTable
     mark_racks(tree, entry, wishes, table);
 }
 
+// A unit that begins to wait enters the queues of the machines on which it asks for more than it has. It stands in none of them yet, so
+// only those for which it asks need a look.
+fn enter_machines(tree: &mut Tree, entry: &Entry, wishes: &Wishes, table: &GrantTable)
+    requires cluster { wishes.now.cluster ≡ table.now.cluster }
+    requires here { entry.now.unit.0 < length (get_or wishes.now.cells entry.now.app.0 []) }
+    requires there { entry.now.unit.0 < unit_count (as_known table.now.jobs) entry.now.app.0 }
+    requires waits { WaitsIn wishes.now.cluster entry.now tree.old }
+    requires nowhere { (m : ℕ) → m < length wishes.now.cluster.machines → get_or (unit_at tree.old entry.now.app.0 entry.now.unit.0).stands m false ≡ false }
+    ensures restood { Restood (unit_number entry.now.app.0 entry.now.unit.0) tree.old tree.new }
+    ensures near { (m : ℕ) → m < length wishes.now.cluster.machines → get_or (unit_at tree.new entry.now.app.0 entry.now.unit.0).stands m false ≡ is_unmet_on wishes.now.cells table.now.entries entry.now.app.0 entry.now.unit.0 m }
+    ensures rest { (place : ℕ) → length wishes.now.cluster.machines ≤ place → get_or (unit_at tree.new entry.now.app.0 entry.now.unit.0).stands place false ≡ get_or (unit_at tree.old entry.now.app.0 entry.now.unit.0).stands place false }
+{
+    let wish = wishes.wish(entry.app, entry.unit);
+    let machines = wishes.cluster().machines();
+    let mut number = first_some(&wish.near, 0, machines);
+    while number < machines {
+        let machine = MachineNo(number);
+        let unmet = wishes.is_unmet_on(table, entry.app, entry.unit, machine);
+        tree.mark_machine(entry, machine, unmet);
+        number = first_some(&wish.near, number + 1, machines);
+    }
+}
+
+// The same of racks.
+fn enter_racks(tree: &mut Tree, entry: &Entry, wishes: &Wishes, table: &GrantTable)
+    requires cluster { wishes.now.cluster ≡ table.now.cluster }
+    requires here { entry.now.unit.0 < length (get_or wishes.now.cells entry.now.app.0 []) }
+    requires there { entry.now.unit.0 < unit_count (as_known table.now.jobs) entry.now.app.0 }
+    requires waits { WaitsIn wishes.now.cluster entry.now tree.old }
+    requires nowhere { (r : ℕ) → r < 64 → get_or (unit_at tree.old entry.now.app.0 entry.now.unit.0).stands (rack_place tree.old.racks r) false ≡ false }
+    ensures restood { Restood (unit_number entry.now.app.0 entry.now.unit.0) tree.old tree.new }
+    ensures racks { (r : ℕ) → r < 64 → get_or (unit_at tree.new entry.now.app.0 entry.now.unit.0).stands (rack_place tree.new.racks r) false ≡ is_unmet_in wishes.now.cluster wishes.now.cells table.now.entries entry.now.app.0 entry.now.unit.0 r }
+    ensures rest { (place : ℕ) → place < length wishes.now.cluster.machines → get_or (unit_at tree.new entry.now.app.0 entry.now.unit.0).stands place false ≡ get_or (unit_at tree.old entry.now.app.0 entry.now.unit.0).stands place false }
+{
+    let wish = wishes.wish(entry.app, entry.unit);
+    let mut number = first_some(&wish.racks, 0, MOST_RACKS);
+    while number < MOST_RACKS {
+        let rack = RackNo(number);
+        let unmet = wishes.is_unmet_in(table, entry.app, entry.unit, rack);
+        tree.mark_rack(entry, rack, unmet);
+        number = first_some(&wish.racks, number + 1, MOST_RACKS);
+    }
+}
+
+// A unit that begins to wait enters the queues where it asks for more than it has. It stands in none of them yet.
+fn enter_unit(tree: &mut Tree, entry: &Entry, wishes: &Wishes, table: &GrantTable)
+    requires cluster { wishes.now.cluster ≡ table.now.cluster }
+    requires here { entry.now.unit.0 < length (get_or wishes.now.cells entry.now.app.0 []) }
+    requires there { entry.now.unit.0 < unit_count (as_known table.now.jobs) entry.now.app.0 }
+    requires waits { WaitsIn wishes.now.cluster entry.now tree.old }
+    requires nowhere { (place : ℕ) → place < cluster_place tree.old.racks → get_or (unit_at tree.old entry.now.app.0 entry.now.unit.0).stands place false ≡ false }
+    ensures restood { Restood (unit_number entry.now.app.0 entry.now.unit.0) tree.old tree.new }
+    ensures stands { StandsAs wishes.now.cluster wishes.now.cells table.now.entries entry.now.app.0 entry.now.unit.0 tree.new }
+{
+    enter_machines(tree, entry, wishes, table);
+    enter_racks(tree, entry, wishes, table);
+}
+
 // A unit that waits stands in the queues of one machine and of its rack where it asks for more there than it has.
 fn mark_spot(
     tree: &mut Tree,
@@ -281,6 +340,6 @@ pub(crate) fn enter_line(
         let (app, unit) = line.at(place);
         let entry = entry_for(wishes, turn_of, app, unit);
         tree.refresh(&entry, true);
-        mark_unit(tree, &entry, wishes, table);
+        enter_unit(tree, &entry, wishes, table);
     }
 }

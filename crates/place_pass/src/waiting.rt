@@ -1,7 +1,7 @@
 //! The next line: who leaves it, and who begins to wait. Only the jobs are asked of which something was told since. No call takes
 //! memory.
 
-ghost use Rattle.std.specs.Prelude.{◌≡◌, ℕ, ◌+◌, ◌<◌, ◌≤◌, ◌++◌, ◌∷◌, [], ◌&&◌, ◌||◌, ◌-◌, ◌^◌, Some, slice_get, true, false, not, cond, nat_eq, nat_lt, length, filter, map};
+ghost use Rattle.std.specs.Prelude.{◌≡◌, ℕ, ◌+◌, ◌<◌, ◌≤◌, ◌++◌, ◌∷◌, [], ◌&&◌, ◌||◌, ◌-◌, ◌^◌, Some, slice_get, false, not, cond, nat_eq, nat_lt, length, filter, map};
 ghost use Rattle.std.proofs.Common.{get_or};
 ghost use Rattle.fuxi_terms.specs.Cluster.{JobRecord};
 ghost use Rattle.fuxi_terms.specs.Jobs.{unit_count};
@@ -17,38 +17,14 @@ ghost use Rattle.place_pass.specs.WaitingLines.{units_in_all, waiting_of};
 ghost use Rattle.place_pass.specs.Bounds.{IsRising, turn_at};
 ghost use Rattle.place_pass.specs.PlacerTrees.{HoldsLine, AllStand};
 
+use crate::calm::Calm;
 use crate::line::Line;
 use crate::search::slot;
 use crate::standing::entry_for;
 use crate::wishes::Wishes;
-use fuxi_terms::limits::MOST_JOBS;
 use grant_table::GrantTable;
 use locality_tree::Tree;
 use schedule_unit::{AppNo, UnitNo};
-
-/// Something was told of a job: its units may begin to wait or have nothing out any more.
-pub(crate) fn stir(calm: &mut Vec<bool>, app: AppNo)
-    requires { app.0 < length calm.old.items }
-    ensures long { length calm.new.items ≡ length calm.old.items }
-    ensures stirred { (a : ℕ) → get_or calm.new.items a false ≡ (not (nat_eq app.0 a) && get_or calm.old.items a false) }
-{
-    calm[app.0 as usize] = false;
-}
-
-/// The line is that of what was told.
-pub(crate) fn calm_all(calm: &mut Vec<bool>)
-    ensures { length calm.new.items ≡ length calm.old.items }
-{
-    calm.fill(true);
-}
-
-// Whether nothing was told of the job since the line was brought up to date.
-fn is_calm(calm: &Vec<bool>, app: AppNo) -> bool
-    ensures { result ≡ get_or calm.now.items app.0 false }
-{
-    let number = app.0 as usize;
-    number < calm.len() && calm[number]
-}
 
 // A new pair goes last. There is room for each admitted unit.
 fn add_unit(next: &mut Line, wishes: &Wishes, app: AppNo, unit: UnitNo)
@@ -127,7 +103,7 @@ pub(crate) fn leave(
     tree: &mut Tree,
     wishes: &Wishes,
     turn_of: &Vec<u64>,
-    calm: &Vec<bool>,
+    calm: &Calm,
     table: &GrantTable,
 )
     requires level { AreLevel wishes.now.cluster (job_at wishes.now.cells) table.now }
@@ -135,7 +111,7 @@ pub(crate) fn leave(
     requires places { length turn_of.now.items ≡ unit_places }
     requires rises { IsRising (λ (p : Pair). turn_at turn_of.now.items p.0 p.1) line.old.pairs }
     requires holds { HoldsLine wishes.now.cluster wishes.now.cells line.old.pairs turn_of.now.items tree.old }
-    requires still { IsStill wishes.now.cells line.old.pairs calm.now.items table.now }
+    requires still { IsStill wishes.now.cells line.old.pairs calm.now table.now }
     ensures pairs { line.new.pairs ≡ filter (λ p. nat_lt 0 (out_of (asks_in wishes.now.cells) table.now.entries p.0 p.1)) line.old.pairs }
     ensures admitted { AreAdmitted wishes.now.cells line.new.pairs }
     ensures room { line.new.room ≡ line.old.room }
@@ -143,9 +119,11 @@ pub(crate) fn leave(
     ensures stands { AllStand wishes.now.cluster wishes.now.cells table.now.entries line.old.pairs tree.old → AllStand wishes.now.cluster wishes.now.cells table.now.entries line.new.pairs tree.new }
 {
     let _wishes = wishes.cluster();
-    for number in 0..MOST_JOBS {
+    let low = calm.low();
+    let high = calm.high();
+    for number in low..high {
         let app = AppNo(number);
-        if is_calm(calm, app) {
+        if calm.is_calm(app) {
             continue;
         }
         leave_units(line, tree, wishes, turn_of, table, app);
@@ -175,19 +153,22 @@ fn join_units(line: &mut Line, wishes: &Wishes, table: &GrantTable, app: AppNo)
 }
 
 /// The units that begin to wait go last, in the order of job and unit.
-pub(crate) fn join(line: &mut Line, wishes: &Wishes, calm: &Vec<bool>, table: &GrantTable)
+pub(crate) fn join(line: &mut Line, wishes: &Wishes, calm: &Calm, table: &GrantTable)
     requires level { AreLevel wishes.now.cluster (job_at wishes.now.cells) table.now }
     requires jobs { AreJobs table.now.jobs }
-    requires still { IsStill wishes.now.cells line.old.pairs calm.now.items table.now }
+    requires still { IsStill wishes.now.cells line.old.pairs calm.now table.now }
     requires admitted { AreAdmitted wishes.now.cells line.old.pairs }
     requires room { units_in_all wishes.now.cells ≤ line.old.room }
     ensures pairs { line.new.pairs ≡ line.old.pairs ++ filter (λ p. not (has_pair p line.old.pairs)) (waiting_in (map (λ (j : JobRecord). j.number) table.now.jobs) (unit_count (as_known table.now.jobs)) (asks_in wishes.now.cells) table.now.entries) }
     ensures admitted { AreAdmitted wishes.now.cells line.new.pairs }
     ensures room { line.old.room ≤ line.new.room }
 {
-    for index in 0..table.jobs() {
-        let app = table.job(index).app();
-        if is_calm(calm, app) {
+    let _wishes = wishes.cluster();
+    let low = calm.low();
+    let high = calm.high();
+    for number in low..high {
+        let app = AppNo(number);
+        if calm.is_calm(app) {
             continue;
         }
         join_units(line, wishes, table, app);

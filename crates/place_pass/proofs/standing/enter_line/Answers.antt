@@ -3,7 +3,7 @@ use Rattle.fuxi_terms.specs.Jobs.{unit_count}
 use Rattle.fuxi_terms.specs.Keys.{Pair}
 use Rattle.grant_table.specs.GrantTables.{as_known}
 use Rattle.wait_queue.specs.declared.node.Entry.{Entry}
-use Rattle.locality_tree.specs.Trees.{TreeRecord, is_admitted, refreshed, unit_number, MayWait}
+use Rattle.locality_tree.specs.Trees.{TreeRecord, is_admitted, cluster_place, refreshed, unit_at, unit_number, MayWait}
 use Rattle.written_roles.specs.Placing.{has_pair}
 use Rattle.place_pass.specs.Bounds.{turn_at}
 use Rattle.place_pass.specs.WaitingLines.{same_pair}
@@ -11,7 +11,7 @@ use Rattle.place_pass.specs.PlacerTrees.{HoldsLine, AllStand, StandsAs, WaitsIn,
 use Rattle.place_pass.proofs.WaitingLinesLemmas.{pair_is, taken_whole}
 use Rattle.place_pass.proofs.CellsMatchTable.{count_is}
 use Rattle.place_pass.proofs.LinedLemmas.{admitted_at, here_at, placed_at}
-use Rattle.place_pass.proofs.PlacerTreesLemmas.{holds_begun, begun_others, holds_on, numbers_apart, stands_on, may_wait, waits_in, turn_before, has_other, has_itself}
+use Rattle.place_pass.proofs.PlacerTreesLemmas.{holds_begun, begun_nowhere, begun_others, holds_on, numbers_apart, stands_on, may_wait, waits_in, turn_before, has_other, has_itself}
 use Rattle.place_pass.proofs.standing.enter_line.Goals as goal
 
 pub entry_for-entry-requires-clause-unit : goal.entry_for-entry-requires-clause-unit
@@ -35,12 +35,12 @@ refresh-requires-clause-entry c =
     (may_wait w.cluster w.cells (λ p. has_pair p (take c.loop-place.place line)) c.args.turn_of.now.items c.loop-place.tree q.0 q.1 c.loop-place.invariant.holds (placed_at c.cluster-wishes.ensures.sound c.args.line.now.pairs c.requires.admitted c.loop-place.place c.at.ensures).0 (placed_at c.cluster-wishes.ensures.sound c.args.line.now.pairs c.requires.admitted c.loop-place.place c.at.ensures).1
     (λ b v x e. let lt = turn_before f line c.loop-place.place q (b, v) c.requires.rises c.at.ensures x in absurd (omega (arith, lt, e))))
 
-pub mark_unit-requires-clause-here : goal.mark_unit-requires-clause-here
-mark_unit-requires-clause-here c = subst (λ (e : Entry). e.unit.0 < length (get_or c.args.wishes.now.cells e.app.0 [])) (sym c.entry_for-entry.ensures)
+pub enter_unit-requires-clause-here : goal.enter_unit-requires-clause-here
+enter_unit-requires-clause-here c = subst (λ (e : Entry). e.unit.0 < length (get_or c.args.wishes.now.cells e.app.0 [])) (sym c.entry_for-entry.ensures)
     (here_at c.cluster-wishes.ensures.sound c.args.line.now.pairs c.requires.admitted c.loop-place.place c.at.ensures)
 
-pub mark_unit-requires-clause-there : goal.mark_unit-requires-clause-there
-mark_unit-requires-clause-there c =
+pub enter_unit-requires-clause-there : goal.enter_unit-requires-clause-there
+enter_unit-requires-clause-there c =
     let w = c.args.wishes.now in
     let q : Pair = (c.at.result.0.0, c.at.result.1.0) in
     let here = here_at c.cluster-wishes.ensures.sound c.args.line.now.pairs c.requires.admitted c.loop-place.place c.at.ensures in
@@ -48,8 +48,8 @@ mark_unit-requires-clause-there c =
     let there : q.1 < unit_count (as_known c.args.table.now.jobs) q.0 = omega (arith, here, n) in
     subst (λ (e : Entry). e.unit.0 < unit_count (as_known c.args.table.now.jobs) e.app.0) (sym c.entry_for-entry.ensures) there
 
-pub mark_unit-requires-clause-waits : goal.mark_unit-requires-clause-waits
-mark_unit-requires-clause-waits c =
+pub enter_unit-requires-clause-waits : goal.enter_unit-requires-clause-waits
+enter_unit-requires-clause-waits c =
     let w = c.args.wishes.now in
     let line = c.args.line.now.pairs in
     let place = c.loop-place.place in
@@ -62,6 +62,24 @@ mark_unit-requires-clause-waits c =
     (waits_in w.cluster w.cells (λ p. has_pair p (take (c.loop-place.place + 1) line)) c.args.turn_of.now.items c.refresh.new.self q.0 q.1 held (has_itself line c.loop-place.place q c.at.ensures)
     (here_at c.cluster-wishes.ensures.sound c.args.line.now.pairs c.requires.admitted c.loop-place.place c.at.ensures))
 
+pub enter_unit-requires-clause-nowhere : goal.enter_unit-requires-clause-nowhere
+enter_unit-requires-clause-nowhere c queue lt =
+    let w = c.args.wishes.now in
+    let line = c.args.line.now.pairs in
+    let place = c.loop-place.place in
+    let q : Pair = (c.at.result.0.0, c.at.result.1.0) in
+    let f : Pair → ℕ = λ p. turn_at c.args.turn_of.now.items p.0 p.1 in
+    let t = c.loop-place.tree in
+    let made = c.refresh.ensures ∙ ap (λ (e : Entry). refreshed t e true) c.entry_for-entry.ensures in
+    let new : has_pair q (take place line) ≡ false = elim (has_pair q (take place line)) as (λ x. has_pair q (take place line) ≡ x → x ≡ false) [
+      | true ↦ λ x. let less = turn_before f line place q q c.requires.rises c.at.ensures x in absurd (omega (arith, less))
+      | false ↦ λ _. refl
+    ] refl in
+    subst (λ (e : Entry). get_or (unit_at c.refresh.new.self e.app.0 e.unit.0).stands queue false ≡ false) (sym c.entry_for-entry.ensures)
+    (begun_nowhere w.cluster w.cells (λ p. has_pair p (take place line)) (λ p. has_pair p (take (place + 1) line)) c.args.turn_of.now.items t c.refresh.new.self q.0 q.1 c.loop-place.invariant.holds
+    (placed_at c.cluster-wishes.ensures.sound line c.requires.admitted place c.at.ensures).1 (here_at c.cluster-wishes.ensures.sound line c.requires.admitted place c.at.ensures)
+    (λ b v g. has_other line place q (b, v) c.at.ensures g) new made queue (subst (λ rs. queue < cluster_place rs) (ap (λ (x : TreeRecord). x.racks) made) lt))
+
 pub loop-place-preserved : goal.loop-place-preserved
 loop-place-preserved c =
     let w = c.args.wishes.now in
@@ -72,7 +90,7 @@ loop-place-preserved c =
     let f : Pair → ℕ = λ p. turn_at c.args.turn_of.now.items p.0 p.1 in
     let t = c.loop-place.tree in
     let t1 = c.refresh.new.self in
-    let t2 = c.mark_unit.new.tree in
+    let t2 = c.enter_unit.new.tree in
     let i = c.loop-place.invariant in
     let from = i.from in
     let lu = (placed_at c.cluster-wishes.ensures.sound c.args.line.now.pairs c.requires.admitted c.loop-place.place c.at.ensures).1 in
@@ -83,8 +101,8 @@ loop-place-preserved c =
     (placed_at c.cluster-wishes.ensures.sound c.args.line.now.pairs c.requires.admitted c.loop-place.place c.at.ensures).1
     (here_at c.cluster-wishes.ensures.sound c.args.line.now.pairs c.requires.admitted c.loop-place.place c.at.ensures)
     (λ b v f. has_other line place q (b, v) c.at.ensures f) (has_itself line place q c.at.ensures) (c.refresh.ensures ∙ ap (λ (e : Entry). refreshed c.loop-place.tree e true) c.entry_for-entry.ensures) in
-    let r = subst (λ (e : Entry). Restood (unit_number e.app.0 e.unit.0) t1 t2) c.entry_for-entry.ensures c.mark_unit.ensures.restood in
-    let stands = subst (λ (e : Entry). StandsAs w.cluster w.cells es e.app.0 e.unit.0 t2) c.entry_for-entry.ensures c.mark_unit.ensures.stands in
+    let r = subst (λ (e : Entry). Restood (unit_number e.app.0 e.unit.0) t1 t2) c.entry_for-entry.ensures c.enter_unit.ensures.restood in
+    let stands = subst (λ (e : Entry). StandsAs w.cluster w.cells es e.app.0 e.unit.0 t2) c.entry_for-entry.ensures c.enter_unit.ensures.stands in
     record {
       from = omega (arith, from);
       holds = holds_on w.cluster w.cells (λ p. has_pair p (take (place + 1) line)) c.args.turn_of.now.items t1 t2 q.0 q.1 held (has_itself line place q c.at.ensures) r;

@@ -1,9 +1,9 @@
-use Rattle.std.proofs.Common.{◌≡◌, ℕ, ◌+◌, ◌<◌, Bool, true, false, not, nat_eq, nat_lt, List, [], length, get_or, refl, sym, ◌∙◌, ap, subst, arith}
+use Rattle.std.proofs.Common.{◌≡◌, ℕ, ◌+◌, ◌<◌, ◌≤◌, Bool, true, false, not, nat_eq, nat_lt, List, [], length, get_or, refl, sym, ◌∙◌, ap, subst, arith}
 use Rattle.std.specs.Prelude.{◌||◌}
 use Rattle.std.proofs.lemmas.Bool.Decides.{nat_tests}
 use Rattle.fuxi_terms.specs.Keys.{Pair}
 use Rattle.fuxi_terms.proofs.Alls.{all_filter}
-use Rattle.fuxi_terms.proofs.Booleans.{both_true, number_is, or_false}
+use Rattle.fuxi_terms.proofs.Booleans.{number_is, or_false, or_right}
 use Rattle.written_roles.specs.Masters.{out_of}
 use Rattle.place_pass.specs.Best.{AreAdmitted}
 use Rattle.place_pass.specs.Bounds.{IsRising, turn_at}
@@ -11,14 +11,23 @@ use Rattle.place_pass.specs.Cells.{asks_in}
 use Rattle.place_pass.proofs.KeptLemmas.{rising_filter}
 use Rattle.place_pass.proofs.NumberedLemmas.{app_small}
 use Rattle.place_pass.proofs.SightsLemmas.{place_of}
-use Rattle.place_pass.proofs.StillLemmas.{filter_all, filter_alike, left_then}
+use Rattle.place_pass.proofs.StillLemmas.{calm_out, filter_all, filter_alike, left_then}
 use Rattle.place_pass.proofs.waiting.leave.Goals as goal
 
 pub loop-number-init : goal.loop-number-init
 loop-number-init c =
+    let old = c.args.line.now.pairs in
+    let low = c.low-low.result in
     let w : Pair → Bool = λ p. nat_lt 0 (out_of (asks_in c.args.wishes.now.cells) c.args.table.now.entries p.0 p.1) in
     record {
-      pairs = sym (filter_all (λ p. w p || not (nat_lt p.0 0)) c.args.line.now.pairs (λ p _. grind (arith, nat_tests)));
+      pairs = sym (filter_all (λ p. w p || not (nat_lt p.0 low)) old (λ p has. elim (nat_lt p.0 low) as (λ t. nat_lt p.0 low ≡ t → (w p || not t) ≡ true) [
+        | true ↦ λ t.
+            let place = place_of p old has in
+            let lt : p.0 < low = grind (arith, nat_tests, t) in
+            let small = app_small c.args.wishes.now.cells old place.place p c.requires.admitted place.at c.cluster-wishes.ensures.sound.places in
+            ap (λ b. b || false) (calm_out c.args.wishes.now.cells old c.args.calm.now c.args.table.now c.requires.still p (c.low-low.ensures p.0 lt small) has)
+        | false ↦ λ _. or_right (w p) true refl
+      ] refl));
       room = refl;
       holds = c.requires.holds;
       stands = λ all. all;
@@ -35,7 +44,7 @@ loop-number-preserved-then-is_calm c =
       pairs = c.loop-number.invariant.pairs ∙ filter_alike (λ p. w p || not (nat_lt p.0 n)) (λ p. w p || not (nat_lt p.0 (n + 1))) old (λ p has.
           elim (nat_eq p.0 n) as (λ t. nat_eq p.0 n ≡ t → (w p || not (nat_lt p.0 n)) ≡ (w p || not (nat_lt p.0 (n + 1)))) [
             | true ↦ λ t.
-                let some : w p ≡ true = (both_true _ _ (sym (c.requires.still.still p.0 p.1 (subst (λ x. get_or c.args.calm.now.items x false ≡ true) (sym (number_is p.0 n t)) calm)) ∙ has)).1 in
+                let some = calm_out c.args.wishes.now.cells old c.args.calm.now c.args.table.now c.requires.still p (subst (λ x. get_or c.args.calm.now x false ≡ true) (sym (number_is p.0 n t)) calm) has in
                 ap (λ b. b || not (nat_lt p.0 n)) some ∙ ap (λ b. b || not (nat_lt p.0 (n + 1))) (sym some)
             | false ↦ λ f. ap (λ b. w p || not b) (grind (arith, nat_tests, f))
           ] refl);
@@ -72,8 +81,13 @@ returns-clause-pairs c =
     c.loop-number.invariant.pairs ∙ filter_alike (λ p. w p || not (nat_lt p.0 c.loop-number.number)) w old (λ p has.
     let place = place_of p old has in
     let small = app_small c.args.wishes.now.cells old place.place p c.requires.admitted place.at c.cluster-wishes.ensures.sound.places in
-    let b : nat_lt p.0 c.loop-number.number ≡ true = grind (arith, nat_tests, small, end) in
-    ap (λ x. w p || not x) b ∙ or_false (w p))
+    elim (nat_lt p.0 c.loop-number.number) as (λ t. nat_lt p.0 c.loop-number.number ≡ t → (w p || not t) ≡ w p) [
+      | true ↦ λ _. or_false (w p)
+      | false ↦ λ f.
+          let ge : c.high-high.result ≤ p.0 = grind (arith, nat_tests, f, end) in
+          let some = calm_out c.args.wishes.now.cells old c.args.calm.now c.args.table.now c.requires.still p (c.high-high.ensures p.0 ge small) has in
+          or_right (w p) true refl ∙ sym some
+    ] refl)
 
 pub returns-clause-admitted : goal.returns-clause-admitted
 returns-clause-admitted c =

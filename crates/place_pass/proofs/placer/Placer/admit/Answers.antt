@@ -43,7 +43,7 @@ invariant_of-self-2 c =
     let n = c.units.ensures.number in
     let k = c.self.invariant.counted in
     let room = c.in_ok-reserve.ensures.ok in
-    subst (λ (x : WishesRecord). IsPlacer x c.reserve.new.self (c.self.inside.units + c.units.result) (length c.self.inside.marks) c.self.inside.turn_of.items (length c.self.inside.held.items) c.admit.new.self (length c.stir.new.calm.items)) (sym c.add_job.ensures) (record {
+    subst (λ (x : WishesRecord). IsPlacer x c.reserve.new.self (c.self.inside.units + c.units.result) (length c.self.inside.marks) c.self.inside.turn_of.items (length c.self.inside.held.items) c.admit.new.self) (sym c.add_job.ensures) (record {
       admitted = subst (AreAdmitted (set w.cells j.number xs)) (sym c.in_ok-reserve.ensures.pairs) (admitted_more w.cells c.self.inside.line.pairs j.number xs lt (omega (arith, none)) c.self.invariant.admitted);
       places = length-set w.cells j.number xs ∙ places;
       counted = omega (arith, more, long, n, k);
@@ -51,7 +51,6 @@ invariant_of-self-2 c =
       marked = c.self.invariant.marked;
       turn_places = c.self.invariant.turn_places;
       held_places = c.self.invariant.held_places;
-      calm_places = c.stir.ensures.long ∙ c.self.invariant.calm_places;
       rises = subst (λ (l : List Pair). IsRising (λ (p : Pair). turn_at c.self.inside.turn_of.items p.0 p.1) l) (sym c.in_ok-reserve.ensures.pairs) c.self.invariant.rises;
       holds = subst (λ (l : List Pair). HoldsLine w.cluster (set w.cells j.number xs) l c.self.inside.turn_of.items c.admit.new.self) (sym c.in_ok-reserve.ensures.pairs)
           (subst (λ (t : TreeRecord). HoldsLine w.cluster (set w.cells j.number xs) c.self.inside.line.pairs c.self.inside.turn_of.items t) (sym c.in_ok-admit.ensures.ok)
@@ -63,8 +62,7 @@ pub stir-requires : goal.stir-requires
 stir-requires c =
     let number = c.app.ensures.number in
     let small = job_small c.args.job.now c.units.ensures.valid in
-    let long = c.self.invariant.calm_places in
-    omega (arith, number, small, long)
+    omega (arith, number, small)
 
 pub admit-requires : goal.admit-requires
 admit-requires c u lu =
@@ -130,10 +128,10 @@ returns-clause-level c t l =
       quiet = λ e. subst (λ (l : List Pair). IsQuiet c.add_job.new.self.cells c.add_job.new.self.opened l c.self.inside.turns kept.marks (record t { jobs = with_admitted j t.jobs })) (sym c.in_ok-reserve.ensures.pairs)
           (subst (λ (x : WishesRecord). IsQuiet x.cells x.opened c.self.inside.line.pairs c.self.inside.turns kept.marks (record t { jobs = with_admitted j t.jobs })) (sym c.add_job.ensures)
           (quiet_admitted j w.cells (set w.cells j.number xs) w.opened t empty (asks_admitted w.cells j.number j.group (length w.cluster.machines) j.units lt empty) apart found c.self.inside.line.pairs c.self.inside.turns kept.marks (old.quiet e)));
-      still = subst (λ (l : List Pair). IsStill c.add_job.new.self.cells l c.stir.new.calm.items (record t { jobs = with_admitted j t.jobs })) (sym c.in_ok-reserve.ensures.pairs)
-          (subst (λ (x : WishesRecord). IsStill x.cells c.self.inside.line.pairs c.stir.new.calm.items (record t { jobs = with_admitted j t.jobs })) (sym c.add_job.ensures)
-          (still_admitted j w.cells (set w.cells j.number xs) w.opened t empty (asks_admitted w.cells j.number j.group (length w.cluster.machines) j.units lt empty) apart found c.self.inside.calm.items c.stir.new.calm.items
-          (λ b. c.stir.ensures.stirred b ∙ ap (λ n. not (nat_eq n b) && get_or c.self.inside.calm.items b false) c.app.ensures.number) c.self.inside.line.pairs old.still));
+      still = subst (λ (l : List Pair). IsStill c.add_job.new.self.cells l c.stir.new.self (record t { jobs = with_admitted j t.jobs })) (sym c.in_ok-reserve.ensures.pairs)
+          (subst (λ (x : WishesRecord). IsStill x.cells c.self.inside.line.pairs c.stir.new.self (record t { jobs = with_admitted j t.jobs })) (sym c.add_job.ensures)
+          (still_admitted j w.cells (set w.cells j.number xs) w.opened t empty (asks_admitted w.cells j.number j.group (length w.cluster.machines) j.units lt empty) apart found c.self.inside.calm c.stir.new.self
+          (λ b. c.stir.ensures b ∙ ap (λ n. not (nat_eq n b) && get_or c.self.inside.calm b false) c.app.ensures.number) c.self.inside.line.pairs old.still));
       stands = subst (λ (l : List Pair). AllStand c.add_job.new.self.cluster c.add_job.new.self.cells t.entries l c.admit.new.self) (sym c.in_ok-reserve.ensures.pairs)
           (subst (λ (x : WishesRecord). AllStand x.cluster x.cells t.entries c.self.inside.line.pairs c.admit.new.self) (sym c.add_job.ensures)
           (subst (λ (y : TreeRecord). AllStand w.cluster (set w.cells j.number xs) t.entries c.self.inside.line.pairs y) (sym c.in_ok-admit.ensures.ok)

@@ -33,8 +33,7 @@ pub stir-requires : goal.stir-requires
 stir-requires c =
     let slots = slot_within c.self.inside.wishes.cells c.args.app.0 0 (subst (λ (p : PlacerRecord). 0 < units_seen p.seen c.args.app.0) (sym c.self.view_is) c.requires.here) in
     let places = c.self.invariant.places in
-    let long = c.self.invariant.calm_places in
-    omega (arith, slots, places, long)
+    omega (arith, slots, places)
 
 pub scope_of-scope-requires : goal.scope_of-scope-requires
 scope_of-scope-requires c =
@@ -58,7 +57,7 @@ invariant_of-self c =
     let same = units_same w.cells a xs lt long in
     let k = c.self.invariant.counted in
     let room = c.self.invariant.room in
-    subst (λ (x : WishesRecord). IsPlacer x c.self.inside.line c.self.inside.units (length c.tell_marks.new.marks) c.self.inside.turn_of.items (length c.self.inside.held.items) c.tell_tree.new.tree (length c.stir.new.calm.items)) (sym c.hear-more.ensures.cells) (record {
+    subst (λ (x : WishesRecord). IsPlacer x c.self.inside.line c.self.inside.units (length c.tell_marks.new.marks) c.self.inside.turn_of.items (length c.self.inside.held.items) c.tell_tree.new.tree) (sym c.hear-more.ensures.cells) (record {
       admitted = admitted_more w.cells c.self.inside.line.pairs a xs lt (omega (arith, long)) c.self.invariant.admitted;
       places = length-set w.cells a xs ∙ c.self.invariant.places;
       counted = omega (arith, same, k);
@@ -66,7 +65,6 @@ invariant_of-self c =
       marked = c.tell_marks.ensures.long ∙ c.self.invariant.marked;
       turn_places = c.self.invariant.turn_places;
       held_places = c.self.invariant.held_places;
-      calm_places = c.stir.ensures.long ∙ c.self.invariant.calm_places;
       rises = c.self.invariant.rises;
       holds = subst (λ (x : WishesRecord). HoldsLine x.cluster x.cells c.self.inside.line.pairs c.self.inside.turn_of.items c.tell_tree.new.tree) c.hear-more.ensures.cells c.tell_tree.ensures.holds;
     })
@@ -173,8 +171,8 @@ returns-clause-level c l =
                 (none_lifted w.cluster es w.cells w.opened a c.cluster-wishes.ensures.sound (slot_within w.cells a 0 here) none m) (q.settled m o);
             waiting = λ b u lt some. q.waiting b u lt (waiting_asked w.cluster es w.cells w.opened a c.cluster-wishes.ensures.sound (slot_within w.cells a 0 here) t none b u some);
           });
-      still = subst (λ (x : WishesRecord). IsStill x.cells c.self.inside.line.pairs c.stir.new.calm.items t) (sym c.hear-more.ensures.cells)
-          (still_asked c.self.inside.calm.items c.stir.new.calm.items a c.stir.ensures.stirred w.cells (set w.cells a (taken_all w.cluster es 0 (get_or w.cells a []))) c.self.inside.line.pairs t t
+      still = subst (λ (x : WishesRecord). IsStill x.cells c.self.inside.line.pairs c.stir.new.self t) (sym c.hear-more.ensures.cells)
+          (still_asked c.self.inside.calm c.stir.new.self a c.stir.ensures w.cells (set w.cells a (taken_all w.cluster es 0 (get_or w.cells a []))) c.self.inside.line.pairs t t
           (λ b k f. asked_others w.cluster es w.cells a (slot_within w.cells a 0 here) b k (eq_turned b a ∙ f)) refl (λ b _. refl) old.still);
       stands = c.tell_tree.ensures.stands
           (subst (λ (x : WishesRecord). length (get_or x.cells a []) ≡ unit_count (as_known t.jobs) a) (sym c.hear-more.ensures.cells) (asked_long w.cluster es w.cells a (slot_within w.cells a 0 here) a ∙ count_is w.cluster w.cells t old.level a))

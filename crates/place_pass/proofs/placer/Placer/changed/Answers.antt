@@ -22,9 +22,7 @@ pub stir-requires : goal.stir-requires
 stir-requires c =
     let w = c.self.inside.wishes in
     let here = subst (λ (p : PlacerRecord). c.args.unit.0 < units_seen p.seen c.args.app.0) (sym c.self.view_is) c.requires.here in
-    let small = (placed w.cluster w.cells w.opened c.cluster-wishes.ensures.sound c.args.app.0 c.args.unit.0 here).0 in
-    let long = c.self.invariant.calm_places in
-    omega (arith, small, long)
+    (placed w.cluster w.cells w.opened c.cluster-wishes.ensures.sound c.args.app.0 c.args.unit.0 here).0
 
 pub invariant_of-self : goal.invariant_of-self
 invariant_of-self c =
@@ -43,7 +41,6 @@ invariant_of-self c =
       marked = c.tell.ensures.long ∙ c.self.invariant.marked;
       turn_places = c.self.invariant.turn_places;
       held_places = length-set c.self.inside.held.items c.slot-place.result c.held.result ∙ c.self.invariant.held_places;
-      calm_places = c.stir.ensures.long ∙ c.self.invariant.calm_places;
       rises = subst (λ (l : List Pair). IsRising (λ (p : Pair). turn_at turns p.0 p.1) l) (sym is)
           (rising (λ (p : Pair). turn_at turns p.0 p.1) _ (told_rises line out c.args.app.0 c.args.unit.0 (λ (p : Pair). turn_at turns p.0 p.1) (rising_all (λ (p : Pair). turn_at turns p.0 p.1) line c.self.invariant.rises)));
       holds = c.tell_spot.ensures.holds;
@@ -83,7 +80,7 @@ returns-clause-level c before l is =
       idle = λ e. cc;
       quiet = λ e. cc;
       clear = λ e f. cc;
-      still = still_told c.self.inside.calm.items c.stir.new.calm.items c.args.app.0 c.stir.ensures.stirred w.cells line c.leave_unit.new.line.pairs before t c.args.unit.0 c.args.machine.0 is (λ b v f. ap (has_pair (b, v)) line_is ∙ told_others line out c.args.app.0 c.args.unit.0 b v f) old.still;
+      still = still_told c.self.inside.calm c.stir.new.self c.args.app.0 c.stir.ensures w.cells line c.leave_unit.new.line.pairs before t c.args.unit.0 c.args.machine.0 is (λ b v f. ap (has_pair (b, v)) line_is ∙ told_others line out c.args.app.0 c.args.unit.0 b v f) old.still;
       stands = c.tell_spot.ensures.stands before is (c.leave_unit.ensures.stands before.entries old.stands);
       kept = subst (λ (hs : List ℕ). IsKept w.cells w.opened c.leave_unit.new.line.pairs c.self.inside.turns (record { marks = c.tell.new.marks; turn_of = c.self.inside.turn_of.items; held = hs }) t) (λ i. set c.self.inside.held.items (sym c.slot-place.ensures i) (sym c.held.ensures i))
           (kept_told w.cells w.opened line c.leave_unit.new.line.pairs c.self.inside.turns (length w.cluster.machines) (record { marks = c.self.inside.marks; turn_of = c.self.inside.turn_of.items; held = c.self.inside.held.items }) c.tell.new.marks

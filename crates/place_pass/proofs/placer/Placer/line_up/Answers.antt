@@ -45,7 +45,7 @@ join-requires-clause-still c =
     let w = c.self.inside.wishes in
     let t = c.args.table.now in
     let old = subst (λ (p : PlacerRecord). IsLevelWith p t) (sym c.self.view_is) c.requires.level in
-    subst (λ (l : List Pair). IsStill w.cells l c.self.inside.calm.items t) (sym c.leave.ensures.pairs) (still_left w.cells c.self.inside.line.pairs c.self.inside.calm.items t old.still)
+    subst (λ (l : List Pair). IsStill w.cells l c.self.inside.calm t) (sym c.leave.ensures.pairs) (still_left w.cells c.self.inside.line.pairs c.self.inside.calm t old.still)
 
 pub enter_line-requires-clause-level : goal.enter_line-requires-clause-level
 unfolding IsLevelWith
@@ -105,7 +105,6 @@ invariant_of-self c =
       marked = c.self.invariant.marked;
       turn_places = c.number_from.ensures.places;
       held_places = c.self.invariant.held_places;
-      calm_places = c.calm_all.ensures ∙ c.self.invariant.calm_places;
       rises = (lined_kept (lined_then c) c.self.inside.wishes.cells c.self.inside.wishes.opened c.self.inside.turns c.args.table.now (λ i p ge e. c.number_from.ensures.numbered i p ge e) old.kept).rises;
       holds = c.enter_line.ensures.holds;
     }

@@ -31,7 +31,7 @@ first-requires-clause-level g c = (subst (λ (p : PlacerRecord). IsLevelWith p c
 pub first-requires-clause-waits : goal.first-requires-clause-waits
 first-requires-clause-waits g c a u has =
     let up = subst (λ (p : PlacerRecord). IsUpToDate p.seen c.args.table.now) (sym c.self.view_is) c.requires.up in
-    let out : nat_lt 0 (out_of (asks_in c.self.inside.wishes.cells) c.args.table.now.entries a u) ≡ true = (both_true _ _ (sym (up a u) ∙ has)).1 in
+    let out : nat_lt 0 (out_of (asks_in c.self.inside.wishes.cells) c.args.table.now.entries a u) ≡ true = (both_true (nat_lt u (unit_count (as_known c.args.table.now.jobs) a)) (nat_lt 0 (out_of (asks_in c.self.inside.wishes.cells) c.args.table.now.entries a u)) (sym (up a u) ∙ has)).1 in
     grind (arith, nat_tests, out)
 
 pub first-requires-clause-rises : goal.first-requires-clause-rises
@@ -189,7 +189,7 @@ pub returns-clause-count : goal.returns-clause-count
 unfolding IsLevelWith
 returns-clause-count g c =
     let l = subst (λ (p : PlacerRecord). IsLevelWith p c.args.table.now) (sym c.self.view_is) c.requires.level in
-    let inside = placer_record c.self.inside.wishes c.self.inside.line c.self.inside.turns c.self.inside.idle c.self.inside.marks c.self.inside.turn_of.items c.self.inside.held.items c.self.inside.tree c.self.inside.forgotten c.self.inside.calm.items in
+    let inside = placer_record c.self.inside.wishes c.self.inside.line c.self.inside.turns c.self.inside.idle c.self.inside.marks c.self.inside.turn_of.items c.self.inside.held.items c.self.inside.tree c.self.inside.forgotten c.self.inside.calm in
     subst (λ (p : PlacerRecord). c.first.new.steps ≤ c.args.steps.now + unsettled_machines p) c.self.view_is
     (subst (λ (x : ClusterRecord). c.first.new.steps ≤ c.args.steps.now + count_below (is_unsettled inside) (length x.machines)) (sym l.level.cluster_is) c.first.ensures.count)
 
@@ -197,7 +197,7 @@ pub returns-in_default-clause-count : goal.returns-in_default-clause-count
 unfolding IsLevelWith
 returns-in_default-clause-count g c =
     let l = subst (λ (p : PlacerRecord). IsLevelWith p c.args.table.now) (sym c.self.view_is) c.requires.level in
-    let inside = placer_record c.self.inside.wishes c.self.inside.line c.self.inside.turns c.self.inside.idle c.self.inside.marks c.self.inside.turn_of.items c.self.inside.held.items c.self.inside.tree c.self.inside.forgotten c.self.inside.calm.items in
+    let inside = placer_record c.self.inside.wishes c.self.inside.line c.self.inside.turns c.self.inside.idle c.self.inside.marks c.self.inside.turn_of.items c.self.inside.held.items c.self.inside.tree c.self.inside.forgotten c.self.inside.calm in
     subst (λ (p : PlacerRecord). c.first.new.steps ≤ c.args.steps.now + unsettled_machines p) c.self.view_is
     (subst (λ (x : ClusterRecord). c.first.new.steps ≤ c.args.steps.now + count_below (is_unsettled inside) (length x.machines)) (sym l.level.cluster_is) c.first.ensures.count)
 

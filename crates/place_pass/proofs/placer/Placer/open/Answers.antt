@@ -45,7 +45,7 @@ returns-then-stays-clause-level c t l =
           subst (λ (x : WishesRecord). IsIdle x.cells x.opened t) (sym c.open.ensures) (idle_opened w.cells w.opened t c.args.machine.0 c.args.usable c.is_open-opened.result (omega (arith, r, n)) c.is_open-opened.ensures b.1 (old.idle b.0));
       kept = subst (λ (x : WishesRecord). IsKept x.cells x.opened c.self.inside.line.pairs c.self.inside.turns kept t) (sym c.open.ensures)
           (kept_opened w.cells w.opened (set w.opened c.args.machine.0 c.args.usable) c.self.inside.line.pairs c.self.inside.turns kept t kept.marks (λ m o. inr (none m o, refl)) old.kept);
-      still = subst (λ (x : WishesRecord). IsStill x.cells c.self.inside.line.pairs c.self.inside.calm.items t) (sym c.open.ensures) old.still;
+      still = subst (λ (x : WishesRecord). IsStill x.cells c.self.inside.line.pairs c.self.inside.calm t) (sym c.open.ensures) old.still;
       stands = subst (λ (x : WishesRecord). AllStand x.cluster x.cells t.entries c.self.inside.line.pairs c.self.inside.tree) (sym c.open.ensures) old.stands;
       clear = λ e f. subst (λ (x : WishesRecord). IsClear x.opened c.self.inside.line.pairs kept.marks t) (sym c.open.ensures)
           (record { clear = λ allowed m g o. (old.clear (both_true c.self.inside.idle (not c.args.usable || c.is_open-opened.result) e).0 f).clear allowed m g (none m o) });
@@ -64,7 +64,7 @@ returns-clause-level c t l =
       kept = subst (λ (x : WishesRecord). IsKept x.cells x.opened c.self.inside.line.pairs c.self.inside.turns (record { marks = c.reset_one.new.marks; turn_of = c.self.inside.turn_of.items; held = c.self.inside.held.items }) t) (sym c.open.ensures)
           (kept_opened w.cells w.opened (set w.opened c.args.machine.0 c.args.usable) c.self.inside.line.pairs c.self.inside.turns (record { marks = c.self.inside.marks; turn_of = c.self.inside.turn_of.items; held = c.self.inside.held.items }) t c.reset_one.new.marks
           (λ m o. by m o (nat_eq c.args.machine.0 m) refl) old.kept);
-      still = subst (λ (x : WishesRecord). IsStill x.cells c.self.inside.line.pairs c.self.inside.calm.items t) (sym c.open.ensures) old.still;
+      still = subst (λ (x : WishesRecord). IsStill x.cells c.self.inside.line.pairs c.self.inside.calm t) (sym c.open.ensures) old.still;
       stands = subst (λ (x : WishesRecord). AllStand x.cluster x.cells t.entries c.self.inside.line.pairs c.self.inside.tree) (sym c.open.ensures) old.stands;
       clear = λ e _. let f : false ≡ true = sym c.if-stays.false ∙ (both_true c.self.inside.idle (not c.args.usable || c.is_open-opened.result) e).1 in cc;
       quiet = λ e. let f : false ≡ true = sym c.if-stays.false ∙ (both_true c.self.inside.idle (not c.args.usable || c.is_open-opened.result) e).1 in cc;

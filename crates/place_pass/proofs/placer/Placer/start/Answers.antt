@@ -1,10 +1,11 @@
-use Rattle.std.proofs.Common.{◌≡◌, ℕ, zero, suc, ◌+◌, ◌*◌, Bool, true, false, List, [], length, get_or, refl, sym, ◌∙◌, ap, subst, arith, rules}
+use Rattle.std.proofs.Common.{◌≡◌, ℕ, zero, suc, ◌+◌, ◌*◌, Bool, true, false, List, [], length, get_or, nat_lt, refl, sym, ◌∙◌, ap, subst, arith, rules}
 use Rattle.written_roles.specs.Placing.{has_pair}
 use Rattle.place_pass.specs.Bounds.{MarkRecord, reset_mark, Rises, turn_at}
 use Rattle.place_pass.proofs.FirstByTurn.{rising}
 use Rattle.place_pass.proofs.CellsMatchTable.{few_machines}
 use Rattle.place_pass.proofs.Places.{zeros}
-use Rattle.std.specs.Prelude.{replicate}
+use Rattle.std.specs.Prelude.{◌&&◌, replicate}
+use Rattle.std.proofs.lemmas.Bool.Decides.{nat_tests}
 use Rattle.std.proofs.lemmas.List.{length-replicate}
 use Rattle.fuxi_terms.specs.Keys.{Pair}
 use Rattle.place_pass.specs.Best.{AreAdmitted}
@@ -28,8 +29,8 @@ none_open zero m = refl
 none_open (suc n) zero = refl
 none_open (suc n) (suc m) = none_open n m
 
-none_calm : (xs : List Bool) (n : ℕ) → xs ≡ replicate n false → (a : ℕ) → get_or xs a false ≡ false
-none_calm xs n e a = ap (λ ys. get_or ys a false) e ∙ none_open n a
+none_below : (u : ℕ) (some : Bool) → false ≡ (nat_lt u 0 && some)
+none_below u some = ap (λ b. b && some) (let f : false ≡ nat_lt u 0 = grind (arith, nat_tests) in f)
 
 zero_at : (xs : List ℕ) (n : ℕ) → xs ≡ replicate n 0 → (i : ℕ) → get_or xs i 0 ≡ 0
 zero_at xs n e i = ap (λ ys. get_or ys i 0) e ∙ zeros n i
@@ -46,7 +47,7 @@ returns-clause-level c =
       idle = λ e. cc;
       quiet = λ e. cc;
       clear = λ e f. cc;
-      still = record { still = λ a u e. let f : true ≡ false = sym e ∙ none_calm c.in_ok-calm.calm.items 256 (c.in_ok-calm.ensures.items_if_clones_equal (λ y e. search rules)) a in cc };
+      still = record { still = λ a u _. ap (λ (ps : List Pair). has_pair (a, u) ps) c.in_ok-line.ensures ∙ none_below u _ };
       stands = λ a u has. let f : false ≡ true = sym (ap (λ (ps : List Pair). has_pair (a, u) ps) c.in_ok-line.ensures) ∙ has in cc;
       kept = record {
         bounds = λ m a u opened has lt. let f : false ≡ true = sym (ap (λ (ps : List Pair). has_pair (a, u) ps) c.in_ok-line.ensures) ∙ has in cc;
@@ -69,7 +70,6 @@ invariant_of-result c =
       turn_places = ap length (c.in_ok-turn_of.ensures.items_if_clones_equal (λ y e. search rules)) ∙ length-replicate {A = ℕ} 2048 0;
       held_places = ap length (c.in_ok-held.ensures.items_if_clones_equal (λ y e. search rules)) ∙ length-replicate {A = ℕ} 2048 0;
       rises = rising (λ (p : Pair). turn_at c.in_ok-turn_of.turn_of.items p.0 p.1) c.in_ok-line.line.pairs (subst (Rises (λ (p : Pair). turn_at c.in_ok-turn_of.turn_of.items p.0 p.1)) (sym c.in_ok-line.ensures) tt);
-      calm_places = ap length (c.in_ok-calm.ensures.items_if_clones_equal (λ y e. search rules)) ∙ length-replicate {A = Bool} 256 false;
       holds = subst (λ (w : WishesRecord). HoldsLine w.cluster w.cells c.in_ok-line.line.pairs c.in_ok-turn_of.turn_of.items c.in_ok-tree.tree) (sym c.in_ok-wishes.ensures)
           (subst (λ (l : List Pair). HoldsLine c.args.cluster.now (replicate 256 []) l c.in_ok-turn_of.turn_of.items c.in_ok-tree.tree) (sym c.in_ok-line.ensures)
           (subst (λ (t : TreeRecord). HoldsLine c.args.cluster.now (replicate 256 []) [] c.in_ok-turn_of.turn_of.items t) (sym c.in_ok-tree.ensures) (holds_started c.args.cluster.now (replicate 256 []) c.in_ok-turn_of.turn_of.items (λ a. ap length (none_in 256 a)))));

@@ -2,7 +2,7 @@ use Rattle.std.proofs.Common.{◌≡◌, ◌<◌, length, nat_eq, get_or, sym, �
 use Rattle.std.proofs.lemmas.Bool.{cases_eq}
 use Rattle.std.proofs.lemmas.List.{get_or_read}
 use Rattle.fuxi_terms.proofs.Booleans.{both_true, number_is}
-use Rattle.place_pass.proofs.differing.is_clear.Goals as goal
+use Rattle.place_pass.proofs.sparse.is_clear.Goals as goal
 
 pub loop-place-init : goal.loop-place-init
 loop-place-init c = record { from = omega arith; clear = λ e k ge lt. absurd (omega (arith, ge, lt)) }

@@ -1,5 +1,5 @@
 use Rattle.std.proofs.Common.{◌≡◌, ℕ, true, ◌<◌, ◌≤◌, get_or}
-use Rattle.place_pass.proofs.differing.is_clear.Given as goal
+use Rattle.place_pass.proofs.sparse.is_clear.Given as goal
 
 abbrev pub invariant-loop-place : goal.invariant-loop-place
 invariant-loop-place l = record {
