@@ -112,6 +112,17 @@ impl Wishes {
         allows(&group, &table.used_by(wish.group), &wish.size)
     }
 
+    // Whether a machine of which this is all that is free has room for the unit.
+    fn has_room(&self, table: &GrantTable, free: &Res, app: AppNo, unit: UnitNo) -> bool
+        requires level { AreLevel self.now.cluster (job_at self.now.cells) table.now }
+        requires unit { unit.0 < length (get_or self.now.cells app.0 []) }
+        ensures { (m : ℕ) → IsFree table.now m free.now.q → result ≡ has_room_in table.now.cluster (board_over self.now.cells self.now.opened table.now).sizes table.now.entries app.0 unit.0 m }
+    {
+        let _table = table.cluster();
+        let wish = self.wish(app, unit);
+        fits(&wish.size, free)
+    }
+
     // Whether the machine takes the unit, the unit holds fewer there than its greatest number, and the machine has
     // room for it.
     fn takes(
@@ -128,18 +139,18 @@ impl Wishes {
         requires free { IsFree table.now machine.0 free.now.q }
         ensures { result ≡ (accepts_in (board_over self.now.cells self.now.opened table.now) table.now.entries app.0 unit.0 machine.0 && has_room_in table.now.cluster (board_over self.now.cells self.now.opened table.now).sizes table.now.entries app.0 unit.0 machine.0) }
     {
-        let _table = table.cluster();
-        let wish = self.wish(app, unit);
-        if !self.is_open(machine) {
+        // (first what most often says no)
+        if !self.has_room(table, free, app, unit) {
             return false;
         }
+        let wish = self.wish(app, unit);
         if wish.avoided[machine.0 as usize] > 0 {
             return false;
         }
         if table.held_on(app, unit, machine) >= wish.most {
             return false;
         }
-        fits(&wish.size, free)
+        self.is_open(machine)
     }
 
     // Whether so little is free that a machine of which this is all has room for no unit.
@@ -291,6 +302,23 @@ fn place_from(scene: &Scene<'_>, turn: u64) -> usize
     0
 }
 
+// Whether the limit of its group allows one grant more of the unit. Where it does not the group is noted.
+fn allowed_or_noted(scene: &Scene<'_>, app: AppNo, unit: UnitNo, groups: &mut [bool; 32]) -> bool
+    requires level { AreLevel scene.now.wishes.now.cluster (job_at scene.now.wishes.now.cells) scene.now.table.now }
+    requires unit { unit.0 < length (get_or scene.now.wishes.now.cells app.0 []) }
+    ensures allowed { result ≡ true → is_allowed_in scene.now.table.now.cluster (board_in scene.now).groups (board_in scene.now).sizes scene.now.table.now.entries app.0 unit.0 ≡ true }
+    ensures bounded { result ≡ false → (bound : Option (List ℕ)) (t m : ℕ) → IsBounded (board_in scene.now) scene.now.table.now.entries bound groups.new t (app.0, unit.0) m }
+    ensures kept { (g : ℕ) → get_or groups.old g false ≡ true → get_or groups.new g false ≡ true }
+    ensures same { result ≡ true → groups.new ≡ groups.old }
+{
+    if scene.wishes.allowed(scene.table, app, unit) {
+        return true;
+    }
+    let group = scene.wishes.group(scene.table, app, unit);
+    groups[group.0 as usize] = true;
+    false
+}
+
 // Whether the machine takes the unit and has room for it, and the limit of its group allows it. Where it would fit and is not allowed
 // its group is noted.
 fn may_place(
@@ -315,12 +343,7 @@ fn may_place(
     if !scene.wishes.takes(scene.table, free, app, unit, machine) {
         return false;
     }
-    if !scene.wishes.allowed(scene.table, app, unit) {
-        let group = scene.wishes.group(scene.table, app, unit);
-        groups[group.0 as usize] = true;
-        return false;
-    }
-    true
+    allowed_or_noted(scene, app, unit, groups)
 }
 
 // The better of what was found before and of one unit, where it may be placed. Where it would fit and is not allowed its group
@@ -343,6 +366,9 @@ fn weigh(
     ensures sight { (line : List Pair) (place : ℕ) → slice_get line place ≡ Some (app.0, unit.0) → out_of (asks_in scene.now.wishes.now.cells) scene.now.table.now.entries app.0 unit.0 ≢ 0 → IfSome before (λ x. IsSight (board_in scene.now) scene.now.table.now.entries (turn_in scene.now.turn_of.now) line machine.0 x) → IfSome result (λ x. IsSight (board_in scene.now) scene.now.table.now.entries (turn_in scene.now.turn_of.now) line machine.0 x) }
 {
     let wishes = scene.wishes;
+    if !wishes.takes(scene.table, free, app, unit, machine) {
+        return before;
+    }
     let late = 9_u8.saturating_sub(wishes.wish(app, unit).priority);
     let level = wishes.level(scene.table, app, unit, machine);
     let turn = turn_of_unit(wishes, scene.turn_of, app, unit);
@@ -350,7 +376,7 @@ fn weigh(
     if !may_be_nearer(&before, &rank) {
         return before;
     }
-    if !may_place(scene, machine, free, app, unit, groups) {
+    if !allowed_or_noted(scene, app, unit, groups) {
         return before;
     }
     nearer(before, Sight { rank, app, unit })

@@ -10,17 +10,21 @@ use Rattle.place_pass.specs.Cells.{Cell, asks_in}
 use Rattle.place_pass.specs.Scenes.{board_in}
 use Rattle.place_pass.specs.Bounds.{rank_at, is_bound}
 use Rattle.place_pass.specs.Sights.{sight_rank, turn_in, IsSight}
-use Rattle.place_pass.proofs.SightsLemmas.{bounded_wider, bounded_by, self_bound, one_of}
+use Rattle.place_pass.proofs.SightsLemmas.{bounded_apart_from, bounded_wider, bounded_by, self_bound, one_of}
 use Rattle.place_pass.proofs.CellsMatchTable.{unit_is}
 use Rattle.place_pass.proofs.search.weigh.Goals as goal
 
-pub returns-then-not-may_place-clause-here : goal.returns-then-not-may_place-clause-here
-returns-then-not-may_place-clause-here c = c.may_place.ensures.bounded c.if-not-may_place.true (sight_rank c.args.before) (turn_in c.args.scene.now.turn_of.now (c.args.app.0, c.args.unit.0))
+pub returns-then-not-takes-clause-here : goal.returns-then-not-takes-clause-here
+returns-then-not-takes-clause-here c =
+    bounded_apart_from (board_in c.args.scene.now) c.args.scene.now.table.now.entries (sight_rank c.args.before) c.args.groups.now (turn_in c.args.scene.now.turn_of.now (c.args.app.0, c.args.unit.0)) (c.args.app.0, c.args.unit.0) c.args.machine.0 (sym c.takes.ensures ∙ c.if-not-takes.true)
 
-pub returns-then-not-may_place-clause-kept : goal.returns-then-not-may_place-clause-kept
-returns-then-not-may_place-clause-kept c q t h =
+pub returns-then-not-allowed_or_noted-clause-here : goal.returns-then-not-allowed_or_noted-clause-here
+returns-then-not-allowed_or_noted-clause-here c = c.allowed_or_noted.ensures.bounded c.if-not-allowed_or_noted.true (sight_rank c.args.before) (turn_in c.args.scene.now.turn_of.now (c.args.app.0, c.args.unit.0)) c.args.machine.0
+
+pub returns-then-not-allowed_or_noted-clause-kept : goal.returns-then-not-allowed_or_noted-clause-kept
+returns-then-not-allowed_or_noted-clause-kept c q t h =
     let b = board_in c.args.scene.now in
-    bounded_wider b c.args.scene.now.table.now.entries (sight_rank c.args.before) (sight_rank c.args.before) c.args.groups.now c.may_place.new.groups t q c.args.machine.0 (λ r e. e) (c.may_place.ensures.kept (b.groups q.0)) h
+    bounded_wider b c.args.scene.now.table.now.entries (sight_rank c.args.before) (sight_rank c.args.before) c.args.groups.now c.allowed_or_noted.new.groups t q c.args.machine.0 (λ r e. e) (c.allowed_or_noted.ensures.kept (b.groups q.0)) h
 
 rank_is : (c : goal.After-nearer) → (c.saturating_sub-late.result ∷ c.level-level.result ∷ c.turn_of_unit-turn.result ∷ []) ≡ rank_at (board_in c.args.scene.now) c.args.scene.now.table.now.entries (turn_in c.args.scene.now.turn_of.now (c.args.app.0, c.args.unit.0)) (c.args.app.0, c.args.unit.0) c.args.machine.0
 rank_is c =
@@ -40,12 +44,12 @@ returns-clause-here c =
     let b = board_in c.args.scene.now in
     let p : Pair = (c.args.app.0, c.args.unit.0) in
     let r = rank_at b c.args.scene.now.table.now.entries (turn_in c.args.scene.now.turn_of.now p) p c.args.machine.0 in
-    bounded_by b c.args.scene.now.table.now.entries (sight_rank c.nearer.result) c.may_place.new.groups (turn_in c.args.scene.now.turn_of.now p) p c.args.machine.0 (c.nearer.ensures.itself r (subst (λ x. is_bound (Some x) r ≡ true) (sym (rank_is c)) (self_bound r)))
+    bounded_by b c.args.scene.now.table.now.entries (sight_rank c.nearer.result) c.allowed_or_noted.new.groups (turn_in c.args.scene.now.turn_of.now p) p c.args.machine.0 (c.nearer.ensures.itself r (subst (λ x. is_bound (Some x) r ≡ true) (sym (rank_is c)) (self_bound r)))
 
 pub returns-clause-kept : goal.returns-clause-kept
 returns-clause-kept c q t h =
     let b = board_in c.args.scene.now in
-    bounded_wider b c.args.scene.now.table.now.entries (sight_rank c.args.before) (sight_rank c.nearer.result) c.args.groups.now c.may_place.new.groups t q c.args.machine.0 c.nearer.ensures.kept (c.may_place.ensures.kept (b.groups q.0)) h
+    bounded_wider b c.args.scene.now.table.now.entries (sight_rank c.args.before) (sight_rank c.nearer.result) c.args.groups.now c.allowed_or_noted.new.groups t q c.args.machine.0 c.nearer.ensures.kept (c.allowed_or_noted.ensures.kept (b.groups q.0)) h
 
 pub returns-clause-sight : goal.returns-clause-sight
 returns-clause-sight c line place at some before =
@@ -55,6 +59,6 @@ returns-clause-sight c line place at some before =
     one_of (IsSight b es (turn_in c.args.scene.now.turn_of.now) line c.args.machine.0) c.nearer.result c.args.before _ c.nearer.ensures.one (record {
       place = place;
       at = at;
-      placeable = and_true _ _ (and_true (nat_lt 0 (out_of (asks_in c.args.scene.now.wishes.now.cells) es c.args.app.0 c.args.unit.0)) _ out (c.may_place.ensures.allowed c.if-not-may_place.false)) (c.may_place.ensures.fits c.if-not-may_place.false);
+      placeable = and_true _ _ (and_true (nat_lt 0 (out_of (asks_in c.args.scene.now.wishes.now.cells) es c.args.app.0 c.args.unit.0)) _ out (c.allowed_or_noted.ensures.allowed c.if-not-allowed_or_noted.false)) (sym c.takes.ensures ∙ c.if-not-takes.false);
       rank = rank_is c;
     }) before
