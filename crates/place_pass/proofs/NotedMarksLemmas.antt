@@ -11,7 +11,7 @@ use Rattle.place_pass.specs.Bounds.{MarkRecord, mark_of, mark_at, key_of, zero_r
 use Rattle.place_pass.specs.NotedMarks.{AreNoted}
 use Rattle.place_pass.specs.PackedRanks.{IsSmall, IsAbove}
 use Rattle.place_pass.proofs.PackedRanksLemmas.{first_key, least_above, least_some}
-use Rattle.place_pass.proofs.SightsLemmas.{marks_set}
+use Rattle.place_pass.proofs.SightsLemmas.{mark_read, marks_set}
 
 -- a mark without a bound stays as it is where what is placeable may come earlier
 pub lowered_none : (k : MarkRecord) → key_of k 0 ≡ None → lowered_mark k ≡ k
@@ -86,6 +86,20 @@ module _ (marks : List Mark) (machine : ℕ) (x : Mark) where
               subst (λ (z : MarkRecord). IsAbove z turns m (get_or (set keys machine key) m 0)) (sym is) (subst (IsAbove (mark_at (map mark_of marks) m) turns m) (sym k) one)
         ] refl;
       }
+
+-- ---- a mark of those that have these values is lent, and written
+module _ (items : List Mark) (marks : List MarkRecord) (view : map mark_of items ≡ marks) (n : ℕ) (there : n < length marks) where
+  pub lent_there : n < length items
+  lent_there = let long = length-map items mark_of in let inside = subst (λ (xs : List MarkRecord). n < length xs) (sym view) there in omega (arith, long, inside)
+
+  pub lent_mark : (x : Mark) → x ≡ get_or items n x → mark_of x ≡ mark_at marks n
+  lent_mark x is = mark_read items n x lent_there is ∙ ap (λ (xs : List MarkRecord). mark_at xs n) view
+
+  pub written_mark : (x : Mark) (m : ℕ) → mark_at (map mark_of (set items n x)) m ≡ cond (nat_eq n m) (mark_of x) (mark_at marks m)
+  written_mark x m = marks_set items n x m lent_there ∙ ap (λ (xs : List MarkRecord). cond (nat_eq n m) (mark_of x) (mark_at xs m)) view
+
+  pub written_here : (x : Mark) → mark_at (map mark_of (set items n x)) n ≡ mark_of x
+  written_here x = written_mark x n ∙ ap (λ t. cond t (mark_of x) (mark_at marks n)) (nat_itself n)
 
 -- ---- a walk over the marks changes one more
 module _ (f : ℕ → MarkRecord → MarkRecord) (first before after : List MarkRecord) (n : ℕ) (is : (m : ℕ) → mark_at after m ≡ cond (nat_eq n m) (f n (mark_at before n)) (mark_at before m))

@@ -14,14 +14,16 @@ ghost use Rattle.place_pass.specs.Sights.{IsAsked, IsForgotten};
 
 use crate::keys::{first_below, number_of_mark, number_of_none, renew};
 use crate::line::Line;
+use crate::search::{Found, Scene, consider};
 use crate::wishes::Wishes;
 use cluster_desc::Cluster;
 use fuxi_terms::OutOfMemory;
-use grant_table::GrantTable;
+use grant_table::{GrantTable, Steps};
 use party_ledgers::Demand;
 use schedule_unit::{AppNo, GroupNo, MachineNo, RackNo, UnitNo};
 use std::alloc::Global;
 use std::marker::Model;
+use std::sync::ledger::Ledger;
 
 /// A rank on one machine: 9 less priority, level and turn, compared in this order.
 #[derive(Clone, Copy, Debug)]
@@ -182,9 +184,11 @@ impl Model for Marks {
 }
 
 impl Marks {
-    ghost use Rattle.std.specs.Prelude.{◌≡◌, ℕ, ◌<◌, ◌≤◌, true, is_some, nat_eq, cond, length, replicate, IfOk};
-    ghost use Rattle.place_pass.specs.Bounds.{mark_of, mark_at, key_of, reset_mark, lowered_mark, taken_mark};
+    ghost use Rattle.std.specs.Prelude.{◌≡◌, ℕ, ◌+◌, ◌<◌, ◌≤◌, true, false, is_some, nat_eq, cond, length, replicate, List, None, IfOk, IfSome};
+    ghost use Rattle.place_pass.specs.Bounds.{mark_of, mark_at, key_of, reset_mark, lowered_mark, taken_mark, is_bound};
     ghost use Rattle.place_pass.specs.PackedRanks.{IsAbove};
+    ghost use Rattle.place_pass.specs.Sights.{found_rank};
+    ghost use Rattle.place_pass.specs.Scenes.{CanSearch, IsMarked, IsSettledBy, IsFoundIn, IsLeastOn};
 
     /// Of machines that were not looked at.
     pub(crate) fn new(alloc: Global, machines: usize) -> Result<Marks, OutOfMemory>
@@ -253,6 +257,35 @@ impl Marks {
         let key = number_of_mark(&mark, self.until, machine);
         self.marks[machine as usize] = mark;
         self.keys[machine as usize] = key;
+    }
+
+    /// The best of what was found before and of what is placeable on one machine, which is looked at. Its mark is changed in place.
+    pub(crate) fn consider<L: Ledger>(
+        &mut self,
+        scene: &Scene<'_>,
+        machine: MachineNo,
+        steps: &mut Steps<L>,
+        best: &mut Option<Found>,
+    )
+        requires ready { CanSearch scene.now }
+        requires machine { machine.0 < length scene.now.table.now.cluster.machines }
+        requires there { machine.0 < length self.old }
+        requires old { IsMarked scene.now machine.0 (mark_at self.old machine.0) }
+        ensures long { length self.new ≡ length self.old }
+        ensures mark { IsMarked scene.now machine.0 (mark_at self.new machine.0) }
+        ensures others { (m : ℕ) → nat_eq machine.0 m ≡ false → mark_at self.new m ≡ mark_at self.old m }
+        ensures least { IsLeastOn scene.now best.new machine.0 }
+        ensures kept { (r : List ℕ) → is_bound (found_rank best.old) r ≡ true → is_bound (found_rank best.new) r ≡ true }
+        ensures found { IfSome best.old (λ x. IsFoundIn scene.now x) → IfSome best.new (λ x. IsFoundIn scene.now x) }
+        ensures step { steps.new ≡ steps.old + 1 }
+        ensures settled { best.new ≡ None → IsSettledBy scene.now machine.0 (mark_at self.new machine.0) }
+        ensures empty { best.new ≡ None → best.old ≡ None }
+    {
+        renew(&mut self.keys, &mut self.until, scene.turns);
+        let mark = &mut self.marks[machine.0 as usize];
+        consider(scene, machine, mark, steps, best);
+        let key = number_of_mark(mark, self.until, machine.0);
+        self.keys[machine.0 as usize] = key;
     }
 
     // What is placeable on a machine may come earlier.

@@ -532,8 +532,8 @@ fn is_passed(scene: &Scene<'_>, machine: MachineNo, mark: &Mark, best: &Option<F
     !may_be_first(best, &key, machine)
 }
 
-// The best of what was found before and of what is placeable on one machine that is unsettled, which is looked at.
-fn consider<L: Ledger>(
+/// The best of what was found before and of what is placeable on one machine, which is looked at.
+pub(crate) fn consider<L: Ledger>(
     scene: &Scene<'_>,
     machine: MachineNo,
     mark: &mut Mark,
@@ -542,13 +542,12 @@ fn consider<L: Ledger>(
 )
     requires ready { CanSearch scene.now }
     requires machine { machine.0 < length scene.now.table.now.cluster.machines }
-    requires unsettled { is_unsettled_by scene.now.wishes.now.opened (mark_of mark.old) scene.now.turns machine.0 ≡ true }
     requires old { IsMarked scene.now machine.0 (mark_of mark.old) }
     ensures mark { IsMarked scene.now machine.0 (mark_of mark.new) }
     ensures least { IsLeastOn scene.now best.new machine.0 }
     ensures kept { (r : List ℕ) → is_bound (found_rank best.old) r ≡ true → is_bound (found_rank best.new) r ≡ true }
     ensures found { IfSome best.old (λ x. IsFoundIn scene.now x) → IfSome best.new (λ x. IsFoundIn scene.now x) }
-    ensures count { steps.new ≤ steps.old + cond (is_unsettled_by scene.now.wishes.now.opened (mark_of mark.old) scene.now.turns machine.0) 1 0 }
+    ensures step { steps.new ≡ steps.old + 1 }
     ensures settled { best.new ≡ None → IsSettledBy scene.now machine.0 (mark_of mark.new) }
     ensures empty { best.new ≡ None → best.old ≡ None }
 {
@@ -571,7 +570,7 @@ fn consider<L: Ledger>(
     }
 }
 
-// The same of a machine by its number, which is looked at only where it may be first: else its mark isn't copied.
+// The same of a machine by its number, which is looked at only where it may be first.
 fn consider_at<L: Ledger>(
     scene: &Scene<'_>,
     machine: MachineNo,
@@ -596,9 +595,7 @@ fn consider_at<L: Ledger>(
     if is_passed(scene, machine, marks.at(machine.0), best) {
         return;
     }
-    let mut mark = *marks.at(machine.0);
-    consider(scene, machine, &mut mark, steps, best);
-    marks.put(machine.0, mark);
+    marks.consider(scene, machine, steps, best);
 }
 
 // The number of the best so far.
