@@ -169,22 +169,25 @@ pub(crate) struct Marks {
     /// None is greater than that of the machine's bound of all pairs with a turn below `until`.
     keys: Vec<u128>,
     until: u64,
+    /// Whether a mark may note a group.
+    noted: bool,
 }
 
 impl Model for Marks {
     ghost use Rattle.std.specs.Prelude.{List, map};
     ghost use Rattle.place_pass.specs.Bounds.{MarkRecord, mark_of};
-    ghost use Rattle.place_pass.specs.NotedMarks.{AreNoted};
+    ghost use Rattle.place_pass.specs.NotedMarks.{AreNoted, AreClearUnless};
 
     ghost Value = { List MarkRecord };
 
     ghost view = { λ s. map mark_of s.marks.items };
 
-    ghost invariant = { λ s. AreNoted (map mark_of s.marks.items) s.keys.items s.until };
+    ghost invariant = { λ s. AreNoted (map mark_of s.marks.items) s.keys.items s.until × AreClearUnless (map mark_of s.marks.items) s.noted };
 }
 
 impl Marks {
     ghost use Rattle.std.specs.Prelude.{◌≡◌, ℕ, ◌+◌, ◌<◌, ◌≤◌, true, false, is_some, nat_eq, cond, length, replicate, List, None, IfOk, IfSome};
+    ghost use Rattle.std.proofs.Common.{get_or};
     ghost use Rattle.place_pass.specs.Bounds.{mark_of, mark_at, key_of, reset_mark, lowered_mark, taken_mark, is_bound};
     ghost use Rattle.place_pass.specs.PackedRanks.{IsAbove};
     ghost use Rattle.place_pass.specs.Sights.{found_rank};
@@ -199,6 +202,7 @@ impl Marks {
             marks: Vec::from_elem(alloc, Mark::new(), machines)?,
             keys: Vec::from_elem(alloc, 0, machines)?,
             until: 0,
+            noted: false,
         })
     }
 
@@ -255,6 +259,7 @@ impl Marks {
     {
         renew(&mut self.keys, &mut self.until, mark.until);
         let key = number_of_mark(&mark, self.until, machine);
+        self.noted |= mark.notes_any();
         self.marks[machine as usize] = mark;
         self.keys[machine as usize] = key;
     }
@@ -285,7 +290,23 @@ impl Marks {
         let mark = &mut self.marks[machine.0 as usize];
         consider(scene, machine, mark, steps, best);
         let key = number_of_mark(mark, self.until, machine.0);
+        self.noted |= mark.notes_any();
         self.keys[machine.0 as usize] = key;
+    }
+
+    // Whether a mark may note a group.
+    fn may_note(&self) -> bool
+        ensures { result ≡ false → (m g : ℕ) → m < length self.now → get_or (mark_at self.now m).groups g false ≡ false }
+    {
+        self.noted
+    }
+
+    // No mark notes a group.
+    fn note_none(&mut self)
+        requires { (m g : ℕ) → m < length self.old → get_or (mark_at self.old m).groups g false ≡ false }
+        ensures { self.new ≡ self.old }
+    {
+        self.noted = false;
     }
 
     // What is placeable on a machine may come earlier.
@@ -396,6 +417,7 @@ fn clear_all(marks: &mut Marks)
         mark.clear();
         marks.put(number, mark);
     }
+    marks.note_none();
 }
 
 /// Where no group of the line is at its limit any more, the marks note none.
@@ -406,7 +428,11 @@ pub(crate) fn forget_groups(marks: &mut Marks, wishes: &Wishes, line: &Line, tab
     ensures clear { AreAllowed table.now line.now.pairs → (m g : ℕ) → m < length marks.old → get_or (mark_at marks.new m).groups g false ≡ false }
     ensures long { length marks.new ≡ length marks.old }
 {
+    if !marks.may_note() {
+        return;
+    }
     if !notes_any_group(marks) {
+        marks.note_none();
         return;
     }
     if !are_allowed(wishes, line, table) {

@@ -1,7 +1,7 @@
 use Rattle.std.proofs.Common.{cond, map, sym, ◌∙◌, ap, subst}
 use Rattle.place_pass.specs.Bounds.{mark_of, mark_at}
 use Rattle.place_pass.specs.Scenes.{IsMarked, IsSettledBy}
-use Rattle.place_pass.proofs.NotedMarksLemmas.{noted_set, lent_there, lent_mark, written_mark, written_here}
+use Rattle.place_pass.proofs.NotedMarksLemmas.{noted_set, clear_or, lent_there, lent_mark, written_mark, written_here}
 use Rattle.place_pass.proofs.marks.Marks.consider.Goals as goal
 
 pub consider-requires-clause-old : goal.consider-requires-clause-old
@@ -12,8 +12,10 @@ consider-requires-clause-old g c =
 pub invariant_of-self : goal.invariant_of-self
 invariant_of-self g c =
     let n = c.args.machine.0 in
-    let items = c.self.inside.marks.items in
-    noted_set items n c.consider.new.mark c.renew.new.keys.items c.number_of_mark-key.result c.renew.new.until (lent_there items c.args.self.now c.self.view_is n c.requires.there) (c.renew.ensures (map mark_of items) c.self.invariant) c.number_of_mark-key.ensures
+    let items = c.self.inside.marks.items in (
+      noted_set items n c.consider.new.mark c.renew.new.keys.items c.number_of_mark-key.result c.renew.new.until (lent_there items c.args.self.now c.self.view_is n c.requires.there) (c.renew.ensures (map mark_of items) c.self.invariant.0) c.number_of_mark-key.ensures,
+      clear_or items c.args.self.now c.self.view_is n c.requires.there c.consider.new.mark c.self.inside.noted c.notes_any.result c.self.invariant.1 c.notes_any.ensures,
+    )
 
 pub returns-clause-mark : goal.returns-clause-mark
 returns-clause-mark g c =

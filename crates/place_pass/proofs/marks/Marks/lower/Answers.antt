@@ -1,12 +1,16 @@
-use Rattle.std.proofs.Common.{cond, nat_eq, ◌∙◌, ap}
+use Rattle.std.proofs.Common.{false, get_or, cond, nat_eq, ◌∙◌, ap}
 use Rattle.place_pass.specs.Bounds.{MarkRecord, mark_at, lowered_mark}
-use Rattle.place_pass.proofs.NotedMarksLemmas.{noted_set, lent_there, lent_mark, written_mark}
+use Rattle.place_pass.proofs.NotedMarksLemmas.{noted_set, clear_set, clear_there, lent_there, lent_mark, written_mark}
 use Rattle.place_pass.proofs.marks.Marks.lower.Goals as goal
 
 pub invariant_of-self : goal.invariant_of-self
 invariant_of-self c =
-    let items = c.self.inside.marks.items in
-    noted_set items c.args.machine c.lower.new.self c.self.inside.keys.items c.number_of_mark-key.result c.self.inside.until (lent_there items c.args.self.now c.self.view_is c.args.machine c.requires) c.self.invariant c.number_of_mark-key.ensures
+    let items = c.self.inside.marks.items in (
+      noted_set items c.args.machine c.lower.new.self c.self.inside.keys.items c.number_of_mark-key.result c.self.inside.until (lent_there items c.args.self.now c.self.view_is c.args.machine c.requires) c.self.invariant.0 c.number_of_mark-key.ensures,
+      clear_set items c.args.self.now c.self.view_is c.args.machine c.requires c.lower.new.self c.self.inside.noted c.self.inside.noted c.self.invariant.1 (λ e. e) (λ e g.
+          let groups = c.lower.ensures ∙ ap lowered_mark (lent_mark items c.args.self.now c.self.view_is c.args.machine c.requires c.index_mut-mark.result.now c.index_mut-mark.ensures.value) in
+          ap (λ (k : MarkRecord). get_or k.groups g false) groups ∙ clear_there items c.args.self.now c.self.view_is c.args.machine c.requires c.self.inside.noted c.self.invariant.1 e g),
+    )
 
 pub returns-clause-marks : goal.returns-clause-marks
 returns-clause-marks c m =
