@@ -286,11 +286,33 @@ pub(crate) fn turn_of_unit(wishes: &Wishes, turn_of: &[u64], app: AppNo, unit: U
     turn_of[slot(app, unit)]
 }
 
+// The place from which on as many pairs stand as turns were given since this one, where the first of them has it: then none of them
+// has left the line.
+fn place_by_turns(scene: &Scene<'_>, turn: u64) -> Option<usize>
+    requires ready { CanSearch scene.now }
+    ensures { IfSome result (λ place. (k : ℕ) (p : Pair) → k < place → slice_get scene.now.line.now.pairs k ≡ Some p → turn_in scene.now.turn_of.now p < turn) }
+{
+    let len = scene.line.len();
+    let since = scene.turns.saturating_sub(turn);
+    if since == 0 || since > len as u64 {
+        return None;
+    }
+    let place = len - since as usize;
+    let (app, unit) = scene.line.at(place);
+    if turn_of_unit(scene.wishes, scene.turn_of, app, unit) != turn {
+        return None;
+    }
+    Some(place)
+}
+
 // The place from which on the turns are at least this one.
 fn place_from(scene: &Scene<'_>, turn: u64) -> usize
     requires ready { CanSearch scene.now }
     ensures { (k : ℕ) (p : Pair) → k < result → slice_get scene.now.line.now.pairs k ≡ Some p → turn_in scene.now.turn_of.now p < turn }
 {
+    if let Some(place) = place_by_turns(scene, turn) {
+        return place;
+    }
     let mut place = scene.line.len();
     while place > 0 {
         let (app, unit) = scene.line.at(place - 1);
