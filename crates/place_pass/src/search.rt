@@ -15,7 +15,7 @@ ghost use Rattle.written_roles.specs.Placing.{first_in, accepts_in, has_room_in,
 ghost use Rattle.place_pass.specs.Cells.{asks_in, job_at, unit_places};
 ghost use Rattle.place_pass.specs.Placers.{AreLevel, board_over};
 ghost use Rattle.place_pass.specs.Best.{spot_of, AreAdmitted};
-ghost use Rattle.place_pass.specs.Bounds.{MarkRecord, rank_of, mark_of, mark_at, key_of, Rises, IsBounded, is_bound, comes_before};
+ghost use Rattle.place_pass.specs.Bounds.{MarkRecord, rank_of, mark_of, mark_at, key_of, Rises, rank_at, IsBounded, is_bound, comes_before};
 ghost use Rattle.place_pass.specs.SearchCounts.{is_unsettled_by, count_below};
 ghost use Rattle.place_pass.specs.PlacerTrees.{TreeOf};
 ghost use Rattle.place_pass.specs.PackedRanks.{packed, IsAbove};
@@ -239,30 +239,13 @@ fn is_earlier_here(rank: &Rank, other: &Rank) -> bool
     comes_first(rank.late as u64, other.late as u64, by_level)
 }
 
-// The better one on one machine.
-fn nearer(best: Option<Sight>, sight: Sight) -> Option<Sight>
-    ensures kept { (r : List ℕ) → is_bound (sight_rank best) r ≡ true → is_bound (sight_rank result) r ≡ true }
-    ensures itself { (r : List ℕ) → is_bound (Some (rank_of sight.rank)) r ≡ true → is_bound (sight_rank result) r ≡ true }
-    ensures one { IfSome result (λ x. (x ≡ sight) ⊎ (Some x ≡ best)) }
+// Whether a rank comes before that of the best so far.
+fn may_be_nearer(best: &Option<Sight>, rank: &Rank) -> bool
+    ensures sooner { result ≡ true → (r : List ℕ) → is_bound (sight_rank best.now) r ≡ true → is_bound (Some (rank_of rank.now)) r ≡ true }
+    ensures later { result ≡ false → is_bound (sight_rank best.now) (rank_of rank.now) ≡ true }
 {
     match best {
-        Some(best) => {
-            if is_earlier_here(&sight.rank, &best.rank) {
-                Some(sight)
-            } else {
-                Some(best)
-            }
-        }
-        None => Some(sight),
-    }
-}
-
-// Whether a rank comes before that of the best so far.
-fn may_be_nearer(before: &Option<Sight>, rank: &Rank) -> bool
-    ensures { result ≡ false → is_bound (sight_rank before.now) (rank_of rank.now) ≡ true }
-{
-    match before {
-        Some(best) => is_earlier_here(rank, &best.rank),
+        Some(sight) => is_earlier_here(rank, &sight.rank),
         None => true,
     }
 }
@@ -368,6 +351,20 @@ fn may_place(
     allowed_or_noted(scene, app, unit, groups)
 }
 
+// The rank of an admitted unit on the machine.
+fn rank_of_unit(scene: &Scene<'_>, app: AppNo, unit: UnitNo, machine: MachineNo) -> Rank
+    requires ready { CanSearch scene.now }
+    requires unit { unit.0 < length (get_or scene.now.wishes.now.cells app.0 []) }
+    requires machine { machine.0 < length scene.now.table.now.cluster.machines }
+    ensures { rank_of result ≡ rank_at (board_in scene.now) scene.now.table.now.entries (turn_in scene.now.turn_of.now (app.0, unit.0)) (app.0, unit.0) machine.0 }
+{
+    let wishes = scene.wishes;
+    let late = 9_u8.saturating_sub(wishes.wish(app, unit).priority);
+    let level = wishes.level(scene.table, app, unit, machine);
+    let turn = turn_of_unit(wishes, scene.turn_of, app, unit);
+    Rank { late, level, turn }
+}
+
 // The better of what was found before and of one unit, where it may be placed. Where it would fit and is not allowed its group
 // is noted.
 fn weigh(
@@ -377,31 +374,27 @@ fn weigh(
     app: AppNo,
     unit: UnitNo,
     groups: &mut [bool; 32],
-    before: Option<Sight>,
-) -> Option<Sight>
+    best: &mut Option<Sight>,
+)
     requires ready { CanSearch scene.now }
     requires unit { unit.0 < length (get_or scene.now.wishes.now.cells app.0 []) }
     requires machine { machine.0 < length scene.now.table.now.cluster.machines }
     requires free { IsFree scene.now.table.now machine.0 free.now.q }
-    ensures here { IsBounded (board_in scene.now) scene.now.table.now.entries (sight_rank result) groups.new (turn_in scene.now.turn_of.now (app.0, unit.0)) (app.0, unit.0) machine.0 }
-    ensures kept { (q : Pair) (t : ℕ) → IsBounded (board_in scene.now) scene.now.table.now.entries (sight_rank before) groups.old t q machine.0 → IsBounded (board_in scene.now) scene.now.table.now.entries (sight_rank result) groups.new t q machine.0 }
-    ensures sight { (line : List Pair) (place : ℕ) → slice_get line place ≡ Some (app.0, unit.0) → out_of (asks_in scene.now.wishes.now.cells) scene.now.table.now.entries app.0 unit.0 ≢ 0 → IfSome before (λ x. IsSight (board_in scene.now) scene.now.table.now.entries (turn_in scene.now.turn_of.now) line machine.0 x) → IfSome result (λ x. IsSight (board_in scene.now) scene.now.table.now.entries (turn_in scene.now.turn_of.now) line machine.0 x) }
+    ensures here { IsBounded (board_in scene.now) scene.now.table.now.entries (sight_rank best.new) groups.new (turn_in scene.now.turn_of.now (app.0, unit.0)) (app.0, unit.0) machine.0 }
+    ensures kept { (q : Pair) (t : ℕ) → IsBounded (board_in scene.now) scene.now.table.now.entries (sight_rank best.old) groups.old t q machine.0 → IsBounded (board_in scene.now) scene.now.table.now.entries (sight_rank best.new) groups.new t q machine.0 }
+    ensures sight { (line : List Pair) (place : ℕ) → slice_get line place ≡ Some (app.0, unit.0) → out_of (asks_in scene.now.wishes.now.cells) scene.now.table.now.entries app.0 unit.0 ≢ 0 → IfSome best.old (λ x. IsSight (board_in scene.now) scene.now.table.now.entries (turn_in scene.now.turn_of.now) line machine.0 x) → IfSome best.new (λ x. IsSight (board_in scene.now) scene.now.table.now.entries (turn_in scene.now.turn_of.now) line machine.0 x) }
 {
-    let wishes = scene.wishes;
-    if !wishes.takes(scene.table, free, app, unit, machine) {
-        return before;
+    if !scene.wishes.takes(scene.table, free, app, unit, machine) {
+        return;
     }
-    let late = 9_u8.saturating_sub(wishes.wish(app, unit).priority);
-    let level = wishes.level(scene.table, app, unit, machine);
-    let turn = turn_of_unit(wishes, scene.turn_of, app, unit);
-    let rank = Rank { late, level, turn };
-    if !may_be_nearer(&before, &rank) {
-        return before;
+    let rank = rank_of_unit(scene, app, unit, machine);
+    if !may_be_nearer(best, &rank) {
+        return;
     }
     if !allowed_or_noted(scene, app, unit, groups) {
-        return before;
+        return;
     }
-    nearer(before, Sight { rank, app, unit })
+    *best = Some(Sight { rank, app, unit });
 }
 
 // The best placeable pair on one machine among those of the line from a place on.
@@ -421,7 +414,7 @@ fn best_from(
     let mut best = None;
     for place in from..scene.line.len() {
         let (app, unit) = scene.line.at(place);
-        best = weigh(scene, machine, free, app, unit, groups, best);
+        weigh(scene, machine, free, app, unit, groups, &mut best);
     }
     best
 }
