@@ -458,9 +458,8 @@ fn is_nearer_on(cluster: &Cluster, machine: MachineNo, rack: RackNo, nearer: boo
     nearer && cluster.machine(machine).rack.0 == rack.0
 }
 
-/// A unit of this group gave a machine back: there is more room there, the group may have more, and where the
-/// unit wants more in the rack than it has it may come earlier on each of its machines.
-pub(crate) fn told_taking(
+// Each mark is told that a unit of this group gave a machine back.
+fn take_on_each(
     marks: &mut Marks,
     cluster: &Cluster,
     group: GroupNo,
@@ -477,6 +476,28 @@ pub(crate) fn told_taking(
         let near = is_nearer_on(cluster, MachineNo(number), rack, nearer);
         marks.take(number, number == machine.0, group, near);
     }
+}
+
+/// A unit of this group gave a machine back: there is more room there, the group may have more, and where the
+/// unit wants more in the rack than it has it may come earlier on each of its machines. Else no mark but that of this machine is asked
+/// where none notes a group.
+pub(crate) fn told_taking(
+    marks: &mut Marks,
+    cluster: &Cluster,
+    group: GroupNo,
+    machine: MachineNo,
+    nearer: bool,
+)
+    requires marks { length marks.old ≡ length cluster.now.machines }
+    requires machine { machine.0 < length cluster.now.machines }
+    ensures marks { (m : ℕ) → m < length marks.old → mark_at marks.new m ≡ after_taking cluster.now group.0 machine.0 nearer m (mark_at marks.old m) }
+    ensures long { length marks.new ≡ length marks.old }
+{
+    if nearer | marks.may_note() {
+        take_on_each(marks, cluster, group, machine, nearer);
+        return;
+    }
+    marks.take(machine.0, true, group, false);
 }
 
 /// The number of grants of a unit on a machine is another one. Before it held so many in all.
