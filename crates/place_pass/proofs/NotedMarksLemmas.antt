@@ -1,17 +1,19 @@
 -- Marks of which some are noted: what another mark changes, and what is passed.
-use Rattle.std.proofs.Common.{◌≡◌, ℕ, zero, suc, ◌+◌, ◌<◌, ◌≤◌, true, false, cond, nat_eq, nat_lt, List, length, map, set, Option, None, Some, get_or, refl, subst, sym, ◌∙◌, ap, arith, inl, inr}
-use Rattle.std.specs.Prelude.{is_some, replicate}
+use Rattle.std.proofs.Common.{◌≡◌, ℕ, zero, suc, ◌+◌, ◌<◌, ◌≤◌, Bool, true, false, cond, nat_eq, nat_lt, List, length, map, set, Option, None, Some, get_or, refl, subst, sym, ◌∙◌, ap, arith, inl, inr}
+use Rattle.std.specs.Prelude.{◌||◌, is_some, replicate}
+use Rattle.std.specs.List.{list_any}
 use Rattle.std.proofs.lemmas.Bool.{cases_lt}
 use Rattle.std.proofs.lemmas.Bool.Decides.{nat_tests}
 use Rattle.std.proofs.lemmas.List.{length-map, length-set, length-replicate}
-use Rattle.fuxi_terms.proofs.Booleans.{number_is, nat_itself}
+use Rattle.fuxi_terms.proofs.Booleans.{both_false, number_is, nat_itself}
 use Rattle.fuxi_terms.proofs.IndexedLists.{one_set}
 use Rattle.place_pass.specs.declared.marks.Mark.{Mark}
-use Rattle.place_pass.specs.Bounds.{MarkRecord, mark_of, mark_at, key_of, zero_rank, no_mark, reset_mark, lowered, lowered_mark}
-use Rattle.place_pass.specs.NotedMarks.{AreNoted}
+use Rattle.place_pass.specs.Bounds.{MarkRecord, mark_of, mark_at, key_of, zero_rank, no_mark, reset_mark, lowered, lowered_mark, taken_mark}
+use Rattle.place_pass.specs.NotedMarks.{AreNoted, AreClearUnless}
 use Rattle.place_pass.specs.PackedRanks.{IsSmall, IsAbove}
 use Rattle.place_pass.proofs.PackedRanksLemmas.{first_key, least_above, least_some}
-use Rattle.place_pass.proofs.SightsLemmas.{marks_set}
+use Rattle.place_pass.proofs.SearchCountsLemmas.{none_noted, none_any}
+use Rattle.place_pass.proofs.SightsLemmas.{mark_read, marks_set}
 
 -- a mark without a bound stays as it is where what is placeable may come earlier
 pub lowered_none : (k : MarkRecord) → key_of k 0 ≡ None → lowered_mark k ≡ k
@@ -86,6 +88,50 @@ module _ (marks : List Mark) (machine : ℕ) (x : Mark) where
               subst (λ (z : MarkRecord). IsAbove z turns m (get_or (set keys machine key) m 0)) (sym is) (subst (IsAbove (mark_at (map mark_of marks) m) turns m) (sym k) one)
         ] refl;
       }
+
+-- ---- a mark of those that have these values is lent, and written
+module _ (items : List Mark) (marks : List MarkRecord) (view : map mark_of items ≡ marks) (n : ℕ) (there : n < length marks) where
+  pub lent_there : n < length items
+  lent_there = let long = length-map items mark_of in let inside = subst (λ (xs : List MarkRecord). n < length xs) (sym view) there in omega (arith, long, inside)
+
+  pub lent_mark : (x : Mark) → x ≡ get_or items n x → mark_of x ≡ mark_at marks n
+  lent_mark x is = mark_read items n x lent_there is ∙ ap (λ (xs : List MarkRecord). mark_at xs n) view
+
+  pub written_mark : (x : Mark) (m : ℕ) → mark_at (map mark_of (set items n x)) m ≡ cond (nat_eq n m) (mark_of x) (mark_at marks m)
+  written_mark x m = marks_set items n x m lent_there ∙ ap (λ (xs : List MarkRecord). cond (nat_eq n m) (mark_of x) (mark_at xs m)) view
+
+  pub written_here : (x : Mark) → mark_at (map mark_of (set items n x)) n ≡ mark_of x
+  written_here x = written_mark x n ∙ ap (λ t. cond t (mark_of x) (mark_at marks n)) (nat_itself n)
+
+  pub clear_there : (noted : Bool) → AreClearUnless (map mark_of items) noted → noted ≡ false → (g : ℕ) → get_or (mark_at marks n).groups g false ≡ false
+  clear_there noted old e g = subst (λ (xs : List MarkRecord). n < length xs → get_or (mark_at xs n).groups g false ≡ false) view (old.clear e n g) there
+
+  -- where no group may be noted then, none is: neither was one before, nor does this mark note any
+  pub clear_set : (x : Mark) (before after : Bool) → AreClearUnless (map mark_of items) before → (after ≡ false → before ≡ false) → (after ≡ false → (g : ℕ) → get_or x.groups g false ≡ false) → AreClearUnless (map mark_of (set items n x)) after
+  clear_set x before after old then here = record {
+    clear = λ e m g lt. let long = long_set items n x in ap (λ (k : MarkRecord). get_or k.groups g false) (marks_set items n x m lent_there) ∙ (elim (nat_eq n m) as (λ t. get_or (cond t (mark_of x) (mark_at (map mark_of items) m)).groups g false ≡ false) [
+      | true ↦ here e g
+      | false ↦ old.clear (then e) m g (omega (arith, lt, long))
+    ]);
+  }
+
+  -- so where it is said of this mark whether it notes one
+  pub clear_or : (x : Mark) (before some : Bool) → AreClearUnless (map mark_of items) before → some ≡ list_any (λ noted. noted) x.groups → AreClearUnless (map mark_of (set items n x)) (before || some)
+  clear_or x before some old is = clear_set x before (before || some) old (λ e. (both_false before some e).0) (λ e g. none_any x.groups g (sym is ∙ (both_false before some e).1))
+
+-- ---- no group is noted
+pub clear_new : (n : ℕ) → AreClearUnless (replicate n (reset_mark 0)) false
+clear_new n = record { clear = λ _ m g lt. let long = length-replicate {A = MarkRecord} n (reset_mark 0) in ap (λ (k : MarkRecord). get_or k.groups g false) (repeated n m (reset_mark 0) no_mark (omega (arith, lt, long))) ∙ none_noted g }
+
+-- a taking notes none
+pub taken_clear : (here nearer : Bool) (group : ℕ) (k : MarkRecord) → ((g : ℕ) → get_or k.groups g false ≡ false) → (g : ℕ) → get_or (taken_mark here group nearer k).groups g false ≡ false
+taken_clear here nearer group k none g = by here (get_or k.groups group false) nearer
+  where
+    by : (h n t : Bool) → get_or (cond h (reset_mark k.until) (cond n (reset_mark k.until) (cond t (lowered_mark k) k))).groups g false ≡ false
+    by true n t = none_noted g
+    by false true t = none_noted g
+    by false false true = none g
+    by false false false = none g
 
 -- ---- a walk over the marks changes one more
 module _ (f : ℕ → MarkRecord → MarkRecord) (first before after : List MarkRecord) (n : ℕ) (is : (m : ℕ) → mark_at after m ≡ cond (nat_eq n m) (f n (mark_at before n)) (mark_at before m))

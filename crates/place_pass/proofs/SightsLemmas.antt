@@ -1,6 +1,6 @@
 -- The better of two ranks, bounds on one machine, and what they say of its pairs.
-use Rattle.std.proofs.Common.{◌≡◌, ℕ, zero, suc, ◌+◌, ◌-◌, ◌<◌, ◌≤◌, Bool, true, false, cond, not, nat_eq, nat_lt, List, [], ◌∷◌, ◌++◌, length, get_or, set, map, slice_get, refl, sym, ◌∙◌, ap, subst, arith, inl, inr, ◌⊎◌, Option, None, Some}
-use Rattle.std.specs.Prelude.{◌&&◌, ◌||◌, ◌==◌, IfSome, replicate, is_some}
+use Rattle.std.proofs.Common.{◌≡◌, ℕ, zero, suc, ◌+◌, ◌-◌, ◌<◌, ◌≤◌, Bool, true, false, cond, not, nat_eq, nat_lt, List, [], ◌∷◌, ◌++◌, length, get_or, set, map, slice_get, refl, sym, ◌∙◌, ap, subst, arith, inl, inr, Option, None, Some}
+use Rattle.std.specs.Prelude.{◌&&◌, ◌||◌, ◌==◌, replicate, is_some}
 use Rattle.std.specs.Ordering.{nat_cmp, is_lt, ordering_then, ordering_reverse}
 use Rattle.std.specs.Cmp.{IsTotalOrder, nat_cmp_total}
 use Rattle.std.specs.declared.cmp.Ordering.{Ordering}
@@ -106,12 +106,6 @@ self_bound r = by (slice_cmp nat_cmp r r) (order.antisymm r r)
     by Less e = let f : is_lt Less ≡ is_lt Greater = ap is_lt e in let g : true ≡ false = f in sym g
     by Equal e = refl
     by Greater e = refl
-
--- one of two has what both have
-pub one_of : {A : Type 0} (P : A → Type 0) (result before : Option A) (x : A) → IfSome result (λ y. (y ≡ x) ⊎ (Some y ≡ before)) → P x → IfSome before P → IfSome result P
-one_of P None before x h p q = tt
-one_of P (Some y) before x (inl e) p q = subst P (sym e) p
-one_of P (Some y) before x (inr e) p q = subst (λ o. IfSome o P) (sym e) q
 
 -- ---- what is said of one pair
 wider : (x g a x' g' : Bool) → (x ≡ true → x' ≡ true) → (g ≡ true → g' ≡ true) → (x || (g && not a)) ≡ true → (x' || (g' && not a)) ≡ true

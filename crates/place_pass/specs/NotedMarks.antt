@@ -1,5 +1,5 @@
--- What is noted of the bounds of machines.
-use Rattle.std.specs.Prelude.{◌≡◌, ℕ, ◌<◌, ◌≤◌, true, List, length, is_some}
+-- What is noted of the bounds of machines, and of their groups.
+use Rattle.std.specs.Prelude.{◌≡◌, ℕ, ◌<◌, ◌≤◌, Bool, true, false, List, length, is_some}
 use Rattle.std.proofs.Common.{get_or}
 use Rattle.place_pass.specs.Bounds.{MarkRecord, mark_at, key_of}
 use Rattle.place_pass.specs.PackedRanks.{IsAbove}
@@ -9,3 +9,7 @@ pub record AreNoted (marks : List MarkRecord) (keys : List ℕ) (until : ℕ) : 
   pub few : length marks ≤ 256
   pub long : length keys ≡ length marks
   pub above : (m turns : ℕ) → m < length marks → turns ≤ until → is_some (key_of (mark_at marks m) turns) ≡ true → IsAbove (mark_at marks m) turns m (get_or keys m 0)
+
+-- unless a group may be noted, no mark notes any
+pub record AreClearUnless (marks : List MarkRecord) (noted : Bool) : Type 0 where
+  pub clear : noted ≡ false → (m g : ℕ) → m < length marks → get_or (mark_at marks m).groups g false ≡ false

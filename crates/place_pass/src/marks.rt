@@ -14,14 +14,16 @@ ghost use Rattle.place_pass.specs.Sights.{IsAsked, IsForgotten};
 
 use crate::keys::{first_below, number_of_mark, number_of_none, renew};
 use crate::line::Line;
+use crate::search::{Found, Scene, consider};
 use crate::wishes::Wishes;
 use cluster_desc::Cluster;
 use fuxi_terms::OutOfMemory;
-use grant_table::GrantTable;
+use grant_table::{GrantTable, Steps};
 use party_ledgers::Demand;
 use schedule_unit::{AppNo, GroupNo, MachineNo, RackNo, UnitNo};
 use std::alloc::Global;
 use std::marker::Model;
+use std::sync::ledger::Ledger;
 
 /// A rank on one machine: 9 less priority, level and turn, compared in this order.
 #[derive(Clone, Copy, Debug)]
@@ -167,24 +169,29 @@ pub(crate) struct Marks {
     /// None is greater than that of the machine's bound of all pairs with a turn below `until`.
     keys: Vec<u128>,
     until: u64,
+    /// Whether a mark may note a group.
+    noted: bool,
 }
 
 impl Model for Marks {
     ghost use Rattle.std.specs.Prelude.{List, map};
     ghost use Rattle.place_pass.specs.Bounds.{MarkRecord, mark_of};
-    ghost use Rattle.place_pass.specs.NotedMarks.{AreNoted};
+    ghost use Rattle.place_pass.specs.NotedMarks.{AreNoted, AreClearUnless};
 
     ghost Value = { List MarkRecord };
 
     ghost view = { λ s. map mark_of s.marks.items };
 
-    ghost invariant = { λ s. AreNoted (map mark_of s.marks.items) s.keys.items s.until };
+    ghost invariant = { λ s. AreNoted (map mark_of s.marks.items) s.keys.items s.until × AreClearUnless (map mark_of s.marks.items) s.noted };
 }
 
 impl Marks {
-    ghost use Rattle.std.specs.Prelude.{◌≡◌, ℕ, ◌<◌, ◌≤◌, true, is_some, nat_eq, cond, length, replicate, IfOk};
-    ghost use Rattle.place_pass.specs.Bounds.{mark_of, mark_at, key_of, reset_mark, lowered_mark, taken_mark};
+    ghost use Rattle.std.specs.Prelude.{◌≡◌, ℕ, ◌+◌, ◌<◌, ◌≤◌, true, false, is_some, nat_eq, cond, length, replicate, List, None, IfOk, IfSome};
+    ghost use Rattle.std.proofs.Common.{get_or};
+    ghost use Rattle.place_pass.specs.Bounds.{mark_of, mark_at, key_of, reset_mark, lowered_mark, taken_mark, is_bound};
     ghost use Rattle.place_pass.specs.PackedRanks.{IsAbove};
+    ghost use Rattle.place_pass.specs.Sights.{found_rank};
+    ghost use Rattle.place_pass.specs.Scenes.{CanSearch, IsMarked, IsSettledBy, IsFoundIn, IsLeastOn};
 
     /// Of machines that were not looked at.
     pub(crate) fn new(alloc: Global, machines: usize) -> Result<Marks, OutOfMemory>
@@ -195,6 +202,7 @@ impl Marks {
             marks: Vec::from_elem(alloc, Mark::new(), machines)?,
             keys: Vec::from_elem(alloc, 0, machines)?,
             until: 0,
+            noted: false,
         })
     }
 
@@ -251,8 +259,54 @@ impl Marks {
     {
         renew(&mut self.keys, &mut self.until, mark.until);
         let key = number_of_mark(&mark, self.until, machine);
+        self.noted |= mark.notes_any();
         self.marks[machine as usize] = mark;
         self.keys[machine as usize] = key;
+    }
+
+    /// The best of what was found before and of what is placeable on one machine, which is looked at. Its mark is changed in place.
+    pub(crate) fn consider<L: Ledger>(
+        &mut self,
+        scene: &Scene<'_>,
+        machine: MachineNo,
+        steps: &mut Steps<L>,
+        best: &mut Option<Found>,
+    )
+        requires ready { CanSearch scene.now }
+        requires machine { machine.0 < length scene.now.table.now.cluster.machines }
+        requires there { machine.0 < length self.old }
+        requires old { IsMarked scene.now machine.0 (mark_at self.old machine.0) }
+        ensures long { length self.new ≡ length self.old }
+        ensures mark { IsMarked scene.now machine.0 (mark_at self.new machine.0) }
+        ensures others { (m : ℕ) → nat_eq machine.0 m ≡ false → mark_at self.new m ≡ mark_at self.old m }
+        ensures least { IsLeastOn scene.now best.new machine.0 }
+        ensures kept { (r : List ℕ) → is_bound (found_rank best.old) r ≡ true → is_bound (found_rank best.new) r ≡ true }
+        ensures found { IfSome best.old (λ x. IsFoundIn scene.now x) → IfSome best.new (λ x. IsFoundIn scene.now x) }
+        ensures step { steps.new ≡ steps.old + 1 }
+        ensures settled { best.new ≡ None → IsSettledBy scene.now machine.0 (mark_at self.new machine.0) }
+        ensures empty { best.new ≡ None → best.old ≡ None }
+    {
+        renew(&mut self.keys, &mut self.until, scene.turns);
+        let mark = &mut self.marks[machine.0 as usize];
+        consider(scene, machine, mark, steps, best);
+        let key = number_of_mark(mark, self.until, machine.0);
+        self.noted |= mark.notes_any();
+        self.keys[machine.0 as usize] = key;
+    }
+
+    // Whether a mark may note a group.
+    fn may_note(&self) -> bool
+        ensures { result ≡ false → (m g : ℕ) → m < length self.now → get_or (mark_at self.now m).groups g false ≡ false }
+    {
+        self.noted
+    }
+
+    // No mark notes a group.
+    fn note_none(&mut self)
+        requires { (m g : ℕ) → m < length self.old → get_or (mark_at self.old m).groups g false ≡ false }
+        ensures { self.new ≡ self.old }
+    {
+        self.noted = false;
     }
 
     // What is placeable on a machine may come earlier.
@@ -363,6 +417,7 @@ fn clear_all(marks: &mut Marks)
         mark.clear();
         marks.put(number, mark);
     }
+    marks.note_none();
 }
 
 /// Where no group of the line is at its limit any more, the marks note none.
@@ -373,7 +428,11 @@ pub(crate) fn forget_groups(marks: &mut Marks, wishes: &Wishes, line: &Line, tab
     ensures clear { AreAllowed table.now line.now.pairs → (m g : ℕ) → m < length marks.old → get_or (mark_at marks.new m).groups g false ≡ false }
     ensures long { length marks.new ≡ length marks.old }
 {
+    if !marks.may_note() {
+        return;
+    }
     if !notes_any_group(marks) {
+        marks.note_none();
         return;
     }
     if !are_allowed(wishes, line, table) {
@@ -399,9 +458,8 @@ fn is_nearer_on(cluster: &Cluster, machine: MachineNo, rack: RackNo, nearer: boo
     nearer && cluster.machine(machine).rack.0 == rack.0
 }
 
-/// A unit of this group gave a machine back: there is more room there, the group may have more, and where the
-/// unit wants more in the rack than it has it may come earlier on each of its machines.
-pub(crate) fn told_taking(
+// Each mark is told that a unit of this group gave a machine back.
+fn take_on_each(
     marks: &mut Marks,
     cluster: &Cluster,
     group: GroupNo,
@@ -418,6 +476,28 @@ pub(crate) fn told_taking(
         let near = is_nearer_on(cluster, MachineNo(number), rack, nearer);
         marks.take(number, number == machine.0, group, near);
     }
+}
+
+/// A unit of this group gave a machine back: there is more room there, the group may have more, and where the
+/// unit wants more in the rack than it has it may come earlier on each of its machines. Else no mark but that of this machine is asked
+/// where none notes a group.
+pub(crate) fn told_taking(
+    marks: &mut Marks,
+    cluster: &Cluster,
+    group: GroupNo,
+    machine: MachineNo,
+    nearer: bool,
+)
+    requires marks { length marks.old ≡ length cluster.now.machines }
+    requires machine { machine.0 < length cluster.now.machines }
+    ensures marks { (m : ℕ) → m < length marks.old → mark_at marks.new m ≡ after_taking cluster.now group.0 machine.0 nearer m (mark_at marks.old m) }
+    ensures long { length marks.new ≡ length marks.old }
+{
+    if nearer | marks.may_note() {
+        take_on_each(marks, cluster, group, machine, nearer);
+        return;
+    }
+    marks.take(machine.0, true, group, false);
 }
 
 /// The number of grants of a unit on a machine is another one. Before it held so many in all.

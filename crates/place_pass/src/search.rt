@@ -15,7 +15,7 @@ ghost use Rattle.written_roles.specs.Placing.{first_in, accepts_in, has_room_in,
 ghost use Rattle.place_pass.specs.Cells.{asks_in, job_at, unit_places};
 ghost use Rattle.place_pass.specs.Placers.{AreLevel, board_over};
 ghost use Rattle.place_pass.specs.Best.{spot_of, AreAdmitted};
-ghost use Rattle.place_pass.specs.Bounds.{MarkRecord, rank_of, mark_of, mark_at, key_of, Rises, IsBounded, is_bound, comes_before};
+ghost use Rattle.place_pass.specs.Bounds.{MarkRecord, rank_of, mark_of, mark_at, key_of, Rises, rank_at, IsBounded, is_bound, comes_before};
 ghost use Rattle.place_pass.specs.SearchCounts.{is_unsettled_by, count_below};
 ghost use Rattle.place_pass.specs.PlacerTrees.{TreeOf};
 ghost use Rattle.place_pass.specs.PackedRanks.{packed, IsAbove};
@@ -112,6 +112,17 @@ impl Wishes {
         allows(&group, &table.used_by(wish.group), &wish.size)
     }
 
+    // Whether a machine of which this is all that is free has room for the unit.
+    fn has_room(&self, table: &GrantTable, free: &Res, app: AppNo, unit: UnitNo) -> bool
+        requires level { AreLevel self.now.cluster (job_at self.now.cells) table.now }
+        requires unit { unit.0 < length (get_or self.now.cells app.0 []) }
+        ensures { (m : ℕ) → IsFree table.now m free.now.q → result ≡ has_room_in table.now.cluster (board_over self.now.cells self.now.opened table.now).sizes table.now.entries app.0 unit.0 m }
+    {
+        let _table = table.cluster();
+        let wish = self.wish(app, unit);
+        fits(&wish.size, free)
+    }
+
     // Whether the machine takes the unit, the unit holds fewer there than its greatest number, and the machine has
     // room for it.
     fn takes(
@@ -128,18 +139,18 @@ impl Wishes {
         requires free { IsFree table.now machine.0 free.now.q }
         ensures { result ≡ (accepts_in (board_over self.now.cells self.now.opened table.now) table.now.entries app.0 unit.0 machine.0 && has_room_in table.now.cluster (board_over self.now.cells self.now.opened table.now).sizes table.now.entries app.0 unit.0 machine.0) }
     {
-        let _table = table.cluster();
-        let wish = self.wish(app, unit);
-        if !self.is_open(machine) {
+        // (first what most often says no)
+        if !self.has_room(table, free, app, unit) {
             return false;
         }
+        let wish = self.wish(app, unit);
         if wish.avoided[machine.0 as usize] > 0 {
             return false;
         }
         if table.held_on(app, unit, machine) >= wish.most {
             return false;
         }
-        fits(&wish.size, free)
+        self.is_open(machine)
     }
 
     // Whether so little is free that a machine of which this is all has room for no unit.
@@ -228,30 +239,13 @@ fn is_earlier_here(rank: &Rank, other: &Rank) -> bool
     comes_first(rank.late as u64, other.late as u64, by_level)
 }
 
-// The better one on one machine.
-fn nearer(best: Option<Sight>, sight: Sight) -> Option<Sight>
-    ensures kept { (r : List ℕ) → is_bound (sight_rank best) r ≡ true → is_bound (sight_rank result) r ≡ true }
-    ensures itself { (r : List ℕ) → is_bound (Some (rank_of sight.rank)) r ≡ true → is_bound (sight_rank result) r ≡ true }
-    ensures one { IfSome result (λ x. (x ≡ sight) ⊎ (Some x ≡ best)) }
+// Whether a rank comes before that of the best so far.
+fn may_be_nearer(best: &Option<Sight>, rank: &Rank) -> bool
+    ensures sooner { result ≡ true → (r : List ℕ) → is_bound (sight_rank best.now) r ≡ true → is_bound (Some (rank_of rank.now)) r ≡ true }
+    ensures later { result ≡ false → is_bound (sight_rank best.now) (rank_of rank.now) ≡ true }
 {
     match best {
-        Some(best) => {
-            if is_earlier_here(&sight.rank, &best.rank) {
-                Some(sight)
-            } else {
-                Some(best)
-            }
-        }
-        None => Some(sight),
-    }
-}
-
-// Whether a rank comes before that of the best so far.
-fn may_be_nearer(before: &Option<Sight>, rank: &Rank) -> bool
-    ensures { result ≡ false → is_bound (sight_rank before.now) (rank_of rank.now) ≡ true }
-{
-    match before {
-        Some(best) => is_earlier_here(rank, &best.rank),
+        Some(sight) => is_earlier_here(rank, &sight.rank),
         None => true,
     }
 }
@@ -275,11 +269,33 @@ pub(crate) fn turn_of_unit(wishes: &Wishes, turn_of: &[u64], app: AppNo, unit: U
     turn_of[slot(app, unit)]
 }
 
+// The place from which on as many pairs stand as turns were given since this one, where the first of them has it: then none of them
+// has left the line.
+fn place_by_turns(scene: &Scene<'_>, turn: u64) -> Option<usize>
+    requires ready { CanSearch scene.now }
+    ensures { IfSome result (λ place. (k : ℕ) (p : Pair) → k < place → slice_get scene.now.line.now.pairs k ≡ Some p → turn_in scene.now.turn_of.now p < turn) }
+{
+    let len = scene.line.len();
+    let since = scene.turns.saturating_sub(turn);
+    if since == 0 || since > len as u64 {
+        return None;
+    }
+    let place = len - since as usize;
+    let (app, unit) = scene.line.at(place);
+    if turn_of_unit(scene.wishes, scene.turn_of, app, unit) != turn {
+        return None;
+    }
+    Some(place)
+}
+
 // The place from which on the turns are at least this one.
 fn place_from(scene: &Scene<'_>, turn: u64) -> usize
     requires ready { CanSearch scene.now }
     ensures { (k : ℕ) (p : Pair) → k < result → slice_get scene.now.line.now.pairs k ≡ Some p → turn_in scene.now.turn_of.now p < turn }
 {
+    if let Some(place) = place_by_turns(scene, turn) {
+        return place;
+    }
     let mut place = scene.line.len();
     while place > 0 {
         let (app, unit) = scene.line.at(place - 1);
@@ -289,6 +305,23 @@ fn place_from(scene: &Scene<'_>, turn: u64) -> usize
         place -= 1;
     }
     0
+}
+
+// Whether the limit of its group allows one grant more of the unit. Where it does not the group is noted.
+fn allowed_or_noted(scene: &Scene<'_>, app: AppNo, unit: UnitNo, groups: &mut [bool; 32]) -> bool
+    requires level { AreLevel scene.now.wishes.now.cluster (job_at scene.now.wishes.now.cells) scene.now.table.now }
+    requires unit { unit.0 < length (get_or scene.now.wishes.now.cells app.0 []) }
+    ensures allowed { result ≡ true → is_allowed_in scene.now.table.now.cluster (board_in scene.now).groups (board_in scene.now).sizes scene.now.table.now.entries app.0 unit.0 ≡ true }
+    ensures bounded { result ≡ false → (bound : Option (List ℕ)) (t m : ℕ) → IsBounded (board_in scene.now) scene.now.table.now.entries bound groups.new t (app.0, unit.0) m }
+    ensures kept { (g : ℕ) → get_or groups.old g false ≡ true → get_or groups.new g false ≡ true }
+    ensures same { result ≡ true → groups.new ≡ groups.old }
+{
+    if scene.wishes.allowed(scene.table, app, unit) {
+        return true;
+    }
+    let group = scene.wishes.group(scene.table, app, unit);
+    groups[group.0 as usize] = true;
+    false
 }
 
 // Whether the machine takes the unit and has room for it, and the limit of its group allows it. Where it would fit and is not allowed
@@ -315,12 +348,21 @@ fn may_place(
     if !scene.wishes.takes(scene.table, free, app, unit, machine) {
         return false;
     }
-    if !scene.wishes.allowed(scene.table, app, unit) {
-        let group = scene.wishes.group(scene.table, app, unit);
-        groups[group.0 as usize] = true;
-        return false;
-    }
-    true
+    allowed_or_noted(scene, app, unit, groups)
+}
+
+// The rank of an admitted unit on the machine.
+fn rank_of_unit(scene: &Scene<'_>, app: AppNo, unit: UnitNo, machine: MachineNo) -> Rank
+    requires ready { CanSearch scene.now }
+    requires unit { unit.0 < length (get_or scene.now.wishes.now.cells app.0 []) }
+    requires machine { machine.0 < length scene.now.table.now.cluster.machines }
+    ensures { rank_of result ≡ rank_at (board_in scene.now) scene.now.table.now.entries (turn_in scene.now.turn_of.now (app.0, unit.0)) (app.0, unit.0) machine.0 }
+{
+    let wishes = scene.wishes;
+    let late = 9_u8.saturating_sub(wishes.wish(app, unit).priority);
+    let level = wishes.level(scene.table, app, unit, machine);
+    let turn = turn_of_unit(wishes, scene.turn_of, app, unit);
+    Rank { late, level, turn }
 }
 
 // The better of what was found before and of one unit, where it may be placed. Where it would fit and is not allowed its group
@@ -332,28 +374,27 @@ fn weigh(
     app: AppNo,
     unit: UnitNo,
     groups: &mut [bool; 32],
-    before: Option<Sight>,
-) -> Option<Sight>
+    best: &mut Option<Sight>,
+)
     requires ready { CanSearch scene.now }
     requires unit { unit.0 < length (get_or scene.now.wishes.now.cells app.0 []) }
     requires machine { machine.0 < length scene.now.table.now.cluster.machines }
     requires free { IsFree scene.now.table.now machine.0 free.now.q }
-    ensures here { IsBounded (board_in scene.now) scene.now.table.now.entries (sight_rank result) groups.new (turn_in scene.now.turn_of.now (app.0, unit.0)) (app.0, unit.0) machine.0 }
-    ensures kept { (q : Pair) (t : ℕ) → IsBounded (board_in scene.now) scene.now.table.now.entries (sight_rank before) groups.old t q machine.0 → IsBounded (board_in scene.now) scene.now.table.now.entries (sight_rank result) groups.new t q machine.0 }
-    ensures sight { (line : List Pair) (place : ℕ) → slice_get line place ≡ Some (app.0, unit.0) → out_of (asks_in scene.now.wishes.now.cells) scene.now.table.now.entries app.0 unit.0 ≢ 0 → IfSome before (λ x. IsSight (board_in scene.now) scene.now.table.now.entries (turn_in scene.now.turn_of.now) line machine.0 x) → IfSome result (λ x. IsSight (board_in scene.now) scene.now.table.now.entries (turn_in scene.now.turn_of.now) line machine.0 x) }
+    ensures here { IsBounded (board_in scene.now) scene.now.table.now.entries (sight_rank best.new) groups.new (turn_in scene.now.turn_of.now (app.0, unit.0)) (app.0, unit.0) machine.0 }
+    ensures kept { (q : Pair) (t : ℕ) → IsBounded (board_in scene.now) scene.now.table.now.entries (sight_rank best.old) groups.old t q machine.0 → IsBounded (board_in scene.now) scene.now.table.now.entries (sight_rank best.new) groups.new t q machine.0 }
+    ensures sight { (line : List Pair) (place : ℕ) → slice_get line place ≡ Some (app.0, unit.0) → out_of (asks_in scene.now.wishes.now.cells) scene.now.table.now.entries app.0 unit.0 ≢ 0 → IfSome best.old (λ x. IsSight (board_in scene.now) scene.now.table.now.entries (turn_in scene.now.turn_of.now) line machine.0 x) → IfSome best.new (λ x. IsSight (board_in scene.now) scene.now.table.now.entries (turn_in scene.now.turn_of.now) line machine.0 x) }
 {
-    let wishes = scene.wishes;
-    let late = 9_u8.saturating_sub(wishes.wish(app, unit).priority);
-    let level = wishes.level(scene.table, app, unit, machine);
-    let turn = turn_of_unit(wishes, scene.turn_of, app, unit);
-    let rank = Rank { late, level, turn };
-    if !may_be_nearer(&before, &rank) {
-        return before;
+    if !scene.wishes.takes(scene.table, free, app, unit, machine) {
+        return;
     }
-    if !may_place(scene, machine, free, app, unit, groups) {
-        return before;
+    let rank = rank_of_unit(scene, app, unit, machine);
+    if !may_be_nearer(best, &rank) {
+        return;
     }
-    nearer(before, Sight { rank, app, unit })
+    if !allowed_or_noted(scene, app, unit, groups) {
+        return;
+    }
+    *best = Some(Sight { rank, app, unit });
 }
 
 // The best placeable pair on one machine among those of the line from a place on.
@@ -373,7 +414,7 @@ fn best_from(
     let mut best = None;
     for place in from..scene.line.len() {
         let (app, unit) = scene.line.at(place);
-        best = weigh(scene, machine, free, app, unit, groups, best);
+        weigh(scene, machine, free, app, unit, groups, &mut best);
     }
     best
 }
@@ -506,8 +547,8 @@ fn is_passed(scene: &Scene<'_>, machine: MachineNo, mark: &Mark, best: &Option<F
     !may_be_first(best, &key, machine)
 }
 
-// The best of what was found before and of what is placeable on one machine that is unsettled, which is looked at.
-fn consider<L: Ledger>(
+/// The best of what was found before and of what is placeable on one machine, which is looked at.
+pub(crate) fn consider<L: Ledger>(
     scene: &Scene<'_>,
     machine: MachineNo,
     mark: &mut Mark,
@@ -516,13 +557,12 @@ fn consider<L: Ledger>(
 )
     requires ready { CanSearch scene.now }
     requires machine { machine.0 < length scene.now.table.now.cluster.machines }
-    requires unsettled { is_unsettled_by scene.now.wishes.now.opened (mark_of mark.old) scene.now.turns machine.0 ≡ true }
     requires old { IsMarked scene.now machine.0 (mark_of mark.old) }
     ensures mark { IsMarked scene.now machine.0 (mark_of mark.new) }
     ensures least { IsLeastOn scene.now best.new machine.0 }
     ensures kept { (r : List ℕ) → is_bound (found_rank best.old) r ≡ true → is_bound (found_rank best.new) r ≡ true }
     ensures found { IfSome best.old (λ x. IsFoundIn scene.now x) → IfSome best.new (λ x. IsFoundIn scene.now x) }
-    ensures count { steps.new ≤ steps.old + cond (is_unsettled_by scene.now.wishes.now.opened (mark_of mark.old) scene.now.turns machine.0) 1 0 }
+    ensures step { steps.new ≡ steps.old + 1 }
     ensures settled { best.new ≡ None → IsSettledBy scene.now machine.0 (mark_of mark.new) }
     ensures empty { best.new ≡ None → best.old ≡ None }
 {
@@ -545,7 +585,7 @@ fn consider<L: Ledger>(
     }
 }
 
-// The same of a machine by its number, which is looked at only where it may be first: else its mark isn't copied.
+// The same of a machine by its number, which is looked at only where it may be first.
 fn consider_at<L: Ledger>(
     scene: &Scene<'_>,
     machine: MachineNo,
@@ -570,9 +610,7 @@ fn consider_at<L: Ledger>(
     if is_passed(scene, machine, marks.at(machine.0), best) {
         return;
     }
-    let mut mark = *marks.at(machine.0);
-    consider(scene, machine, &mut mark, steps, best);
-    marks.put(machine.0, mark);
+    marks.consider(scene, machine, steps, best);
 }
 
 // The number of the best so far.

@@ -17,10 +17,10 @@ loop-place-preserved c =
     let q : Pair = (c.at.result.0.0, c.at.result.1.0) in
     record {
       bounded = λ k p lt e. elim (cases_lt k place) [
-        | inl l ↦ c.weigh-best.ensures.kept p (f p) (c.loop-place.invariant.bounded k p l e)
-        | inr ge ↦ subst (λ z. IsBounded (board_in s) s.table.now.entries (sight_rank c.weigh-best.result) c.weigh-best.new.groups (f z) z c.args.machine.0) (same_place line k place p q (omega (arith, lt, ge)) e c.at.ensures) c.weigh-best.ensures.here
+        | inl l ↦ c.weigh.ensures.kept p (f p) (c.loop-place.invariant.bounded k p l e)
+        | inr ge ↦ subst (λ z. IsBounded (board_in s) s.table.now.entries (sight_rank c.weigh.new.best) c.weigh.new.groups (f z) z c.args.machine.0) (same_place line k place p q (omega (arith, lt, ge)) e c.at.ensures) c.weigh.ensures.here
       ];
-      sight = c.weigh-best.ensures.sight line place c.at.ensures (c.requires.ready.waits q.0 q.1 (has_at line place q c.at.ensures)) c.loop-place.invariant.sight;
+      sight = c.weigh.ensures.sight line place c.at.ensures (c.requires.ready.waits q.0 q.1 (has_at line place q c.at.ensures)) c.loop-place.invariant.sight;
     }
 
 pub returns : goal.returns

@@ -1,8 +1,7 @@
 use Rattle.std.proofs.Common.{◌≡◌, false, cond, nat_lt, Some, refl, ◌∙◌, ap, subst, arith}
 use Rattle.std.specs.Option.{option_map}
 use Rattle.std.proofs.lemmas.Bool.Decides.{nat_tests}
-use Rattle.place_pass.specs.SearchCounts.{is_unsettled_by}
-use Rattle.place_pass.proofs.SearchCountsLemmas.{one_look, not_none}
+use Rattle.place_pass.proofs.SearchCountsLemmas.{not_none}
 use Rattle.place_pass.specs.Bounds.{rank_of, mark_of, zero_rank, IsBounded}
 use Rattle.place_pass.specs.Scenes.{board_in}
 use Rattle.place_pass.specs.Sights.{found_rank, sight_rank, turn_in}
@@ -31,14 +30,6 @@ returns-in-None-clause-least g c =
     let groups = c.look.new.mark.groups in
     least_none (board_in s) s.table.now.entries (turn_in s.turn_of.now) s.line.now.pairs m (found_rank c.args.best.now) groups
     (λ q has. subst (λ o. IsBounded (board_in s) s.table.now.entries o groups (turn_in s.turn_of.now q) q m) (ap sight_rank c.in-None.is) (c.look.ensures.best.bounded q has))
-
-pub returns-in-Some-clause-count : goal.returns-in-Some-clause-count
-returns-in-Some-clause-count g c =
-    one_look (is_unsettled_by c.args.scene.now.wishes.now.opened (mark_of c.args.mark.now) c.args.scene.now.turns c.args.machine.0) c.args.steps.now c.look.new.steps c.look.ensures.step c.requires.unsettled
-
-pub returns-in-None-clause-count : goal.returns-in-None-clause-count
-returns-in-None-clause-count g c =
-    one_look (is_unsettled_by c.args.scene.now.wishes.now.opened (mark_of c.args.mark.now) c.args.scene.now.turns c.args.machine.0) c.args.steps.now c.look.new.steps c.look.ensures.step c.requires.unsettled
 
 pub returns-in-Some-clause-settled : goal.returns-in-Some-clause-settled
 returns-in-Some-clause-settled g c e opened = absurd (not_none c.better.new.best c.better.ensures.some e)

@@ -13,5 +13,5 @@ returns-then-limit-eq0-clause-passed c m ge lt some =
     let len = c.len.ensures in
     let zero = c.if-limit-eq0.true in
     let marks : List MarkRecord = c.args.self.now in
-    let above = subst (λ (xs : List MarkRecord). is_some (key_of (mark_at xs m) 0) ≡ true → IsAbove (mark_at xs m) 0 m number) c.self.view_is (λ t. c.self.invariant.above m 0 (omega (arith, lt, len, long)) (omega arith) t) in
+    let above = subst (λ (xs : List MarkRecord). is_some (key_of (mark_at xs m) 0) ≡ true → IsAbove (mark_at xs m) 0 m number) c.self.view_is (λ t. c.self.invariant.0.above m 0 (omega (arith, lt, len, long)) (omega arith) t) in
     subst (IsAbove (mark_at marks m) c.args.turns m) (sym zero) (least_above (mark_at marks m) c.args.turns m number above some)

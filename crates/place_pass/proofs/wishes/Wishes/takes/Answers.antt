@@ -1,16 +1,21 @@
 use Rattle.std.proofs.Common.{◌≡◌, Bool, true, false, not, nat_lt, length, get_or, refl, sym, ◌∙◌, ap, subst, arith}
 use Rattle.std.specs.Prelude.{◌&&◌}
 use Rattle.std.proofs.lemmas.Bool.Decides.{nat_tests}
-use Rattle.fuxi_terms.specs.Cluster.{ClusterRecord, UnitRecord}
+use Rattle.fuxi_terms.specs.Cluster.{ClusterRecord}
 use Rattle.fuxi_terms.specs.Jobs.{size_at, most_of}
-use Rattle.written_roles.specs.Placing.{has_room_in}
+use Rattle.fuxi_terms.proofs.Booleans.{and_false}
+use Rattle.written_roles.specs.Placing.{accepts_in, has_room_in}
 use Rattle.grant_table.specs.GrantTables.{as_known}
 use Rattle.fuxi_terms.specs.Tables.{held_on}
 use Rattle.place_pass.specs.Cells.{Cell, IsWish, cell_at}
-use Rattle.place_pass.specs.Placers.{is_open_to}
-use Rattle.place_pass.proofs.CellsMatchTable.{avoided_at, most_is, unit_is, has_past}
-use Rattle.place_pass.proofs.Rooms.{room_fits}
+use Rattle.place_pass.specs.Placers.{board_over, is_open_to}
+use Rattle.place_pass.proofs.CellsMatchTable.{avoided_at, most_is}
 use Rattle.place_pass.proofs.wishes.Wishes.takes.Goals as goal
+
+pub returns-then-not-has_room : goal.returns-then-not-has_room
+returns-then-not-has_room c =
+    let accepts = accepts_in (board_over c.args.self.now.cells c.args.self.now.opened c.args.table.now) c.args.table.now.entries c.args.app.0 c.args.unit.0 c.args.machine.0 in
+    sym (ap (λ r. accepts && r) (sym (c.has_room.ensures c.args.machine.0 c.requires.free) ∙ c.if-not-has_room.true) ∙ and_false accepts)
 
 pub index-requires : goal.index-requires
 index-requires c =
@@ -61,15 +66,12 @@ returns c =
     let lt = c.if-held_on-wish.false in
     let fewer : nat_lt (held_on t.entries a u m) (most_of (as_known t.jobs) a u) ≡ true = grind (arith, nat_tests, most, h, lt) in
     let test : nat_lt 0 (get_or (cell_at c.args.self.now.cells a u).avoided m 0) ≡ false = grind (arith, nat_tests, read, le) in
-    let opened : get_or c.args.self.now.opened m false ≡ true = sym c.is_open.ensures ∙ c.if-not-is_open.false in
-    let is = ap (λ (x : Cell). x.unit.size) c.wish-wish.ensures.cell ∙ ap (λ (x : UnitRecord). x.size) (unit_is c.args.self.now.cluster c.args.self.now.cells t c.requires.level a u c.requires.unit) in
-    let eight = (c.wish-wish.ensures.sound.unit a u c.requires.unit).size in
-    let long = ap (λ (x : Cell). length x.unit.size) c.wish-wish.ensures.cell in
-    c.fits.ensures ∙ room_fits t a u c.wish-wish.result.now.size.q is (omega (arith, eight, long)) m c.args.free.now.q (has_past t.cluster c.cluster-table.ensures.sound.valid m) c.requires.free.is c.requires.free.within
-    ∙ all (get_or c.args.self.now.opened m false) (nat_lt 0 (get_or (cell_at c.args.self.now.cells a u).avoided m 0)) (nat_lt (held_on t.entries a u m) (most_of (as_known t.jobs) a u)) (has_room_in t.cluster (size_at (as_known t.jobs)) t.entries a u m) opened test fewer
+    let room : has_room_in t.cluster (size_at (as_known t.jobs)) t.entries a u m ≡ true = sym (c.has_room.ensures m c.requires.free) ∙ c.if-not-has_room.false in
+    c.is_open.ensures ∙ all (get_or c.args.self.now.opened m false) (nat_lt 0 (get_or (cell_at c.args.self.now.cells a u).avoided m 0)) (nat_lt (held_on t.entries a u m) (most_of (as_known t.jobs) a u)) (has_room_in t.cluster (size_at (as_known t.jobs)) t.entries a u m) test fewer room
   where
-    all : (o b n r : Bool) → o ≡ true → b ≡ false → n ≡ true → r ≡ (((o && not b) && n) && r)
-    all true false true r e f g = refl
-    all true false false r e f g = cc
-    all true true n r e f g = cc
-    all false b n r e f g = cc
+    all : (o b n r : Bool) → b ≡ false → n ≡ true → r ≡ true → o ≡ (((o && not b) && n) && r)
+    all true false true true e f g = refl
+    all false false true true e f g = refl
+    all o true n r e f g = cc
+    all o false false r e f g = cc
+    all o false true false e f g = cc
