@@ -21,6 +21,13 @@ carried_at counts u m = get_or (get_or counts m []) u 0
 abbrev pub held_in : TallyRecord → TallyRecord → ℕ → List (List ℕ) → ℕ → ℕ → ℕ
 held_in grants demand boot counts u m = cond (is_named grants m) (usable_in grants demand boot u m) (carried_at counts u m)
 
+-- from a number on the first at which a count is not 0, and the end where there is none before it
+pub record IsNext (count : ℕ → ℕ) (from end next : ℕ) : Type 0 where
+  pub least : from ≤ next
+  pub inside : next ≤ end
+  pub between : (k : ℕ) → from ≤ k → k < next → count k ≡ 0
+  pub there : next < end → 0 < count next
+
 -- from a number on the first machine on which something is held, with how many
 pub record IsNextHeld (held : ℕ → ℕ) (from machines m n : ℕ) : Type 0 where
   pub least : from ≤ m

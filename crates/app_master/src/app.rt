@@ -5,12 +5,14 @@ ghost use Rattle.std.specs.List.{AllByRecursion};
 ghost use Rattle.std.proofs.Common.{get_or};
 ghost use Rattle.fuxi_terms.specs.Cluster.{has_rack};
 ghost use Rattle.fuxi_terms.specs.Limits.{most_jobs, most_units, most_machines, most_steps, greatest_count};
-ghost use Rattle.fuxi_terms.specs.TallyKeys.{key, greatest_demand};
+ghost use Rattle.fuxi_terms.specs.Keys.{key_cmp};
+ghost use Rattle.fuxi_terms.specs.Counts.{count};
+ghost use Rattle.fuxi_terms.specs.TallyKeys.{key, count_key, greatest_demand};
 ghost use Rattle.party_ledgers.specs.Packets.{IsFormed};
 ghost use Rattle.party_ledgers.specs.declared.packets.Kind.TheVariants.{End};
 ghost use Rattle.written_roles.specs.Apps.{AppRole, new_app, demands_alone, held_by, usable_by, given_by, app_resynced, names, Wants, WantsNear, WantsInRack, Avoids, GivesBack};
 ghost use Rattle.core_side.specs.Parcels.{role_number, IsSent};
-ghost use Rattle.app_master.specs.Usable.{is_named, usable_in, held_in, NextHeld};
+ghost use Rattle.app_master.specs.Usable.{is_named, usable_in, carried_at, held_in, IsNext, NextHeld};
 ghost use Rattle.app_master.specs.AppCores.{IsAppCore, StandsFor};
 ghost use Rattle.app_master.specs.AppSeen.{core_of};
 ghost use Rattle.app_master.specs.AppCommands.{Commands};
@@ -283,7 +285,8 @@ impl AppMaster {
         }
     }
 
-    /// From a number on the first machine on which something of a unit is held, with how many grants of it.
+    /// From a number on the first machine on which something of a unit is held, with how many grants of it. Nothing where there is
+    /// no such machine.
     pub fn next_held(&self, unit: UnitNo, from: u32) -> Option<(MachineNo, u32)>
         requires unit { unit.0 < self.now.units }
         requires from { from ≤ self.now.machines }
@@ -360,9 +363,7 @@ impl AppMaster {
     fn next_spot(&self, unit: UnitNo, from: u32) -> u32
         requires unit { unit.0 < self.now.units }
         requires from { from ≤ self.now.machines }
-        ensures least { from ≤ result }
-        ensures inside { result ≤ self.now.machines }
-        ensures between { (m : ℕ) → from ≤ m → m < result → held_in self.now.up.incoming.received self.now.up.outgoing.present self.now.up.outgoing.own self.now.carried unit.0 m ≡ 0 }
+        ensures { IsNext (λ m. count key_cmp self.now.up.incoming.received.entries (count_key unit.0 m) + carried_at self.now.carried unit.0 m) from self.now.machines result }
     {
         let counted = next_counted(self.core.up.got(), unit, from, self.core.machines);
         self.core.carried.next(unit, from, counted)

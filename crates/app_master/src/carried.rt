@@ -4,7 +4,7 @@ ghost use Rattle.std.specs.Prelude.{◌≡◌, ℕ, ◌<◌, ◌≤◌, ◌&&◌
 ghost use Rattle.fuxi_terms.specs.Counts.{AreCounts, count};
 ghost use Rattle.fuxi_terms.specs.Keys.{key_cmp};
 ghost use Rattle.fuxi_terms.specs.TallyKeys.{reported_key, count_key, greatest_grant};
-ghost use Rattle.app_master.specs.Usable.{is_named, usable_in, carried_at};
+ghost use Rattle.app_master.specs.Usable.{is_named, usable_in, carried_at, IsNext};
 
 use crate::tallies::{is_named, usable};
 use fuxi_terms::OutOfMemory;
@@ -54,9 +54,7 @@ impl Carried {
         requires unit { unit.0 < 8 }
         requires from { from ≤ end }
         requires end { end ≤ length self.now }
-        ensures least { from ≤ result }
-        ensures inside { result ≤ end }
-        ensures between { (m : ℕ) → from ≤ m → m < result → carried_at self.now unit.0 m ≡ 0 }
+        ensures { IsNext (carried_at self.now unit.0) from end result }
     {
         for number in from..end {
             if self.count(unit, MachineNo(number)) > 0 {

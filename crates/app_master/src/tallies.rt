@@ -1,6 +1,6 @@
 //! What an application holds of what its grants name, and may give back.
 
-ghost use Rattle.std.specs.Prelude.{◌≡◌, ℕ, ◌<◌, ◌≤◌, ◌&&◌, T, true, false, nat_eq};
+ghost use Rattle.std.specs.Prelude.{◌≡◌, ◌≤◌, ◌&&◌, T, true, false, nat_eq};
 ghost use Rattle.std.specs.Ordering.{is_lt};
 ghost use Rattle.std.specs.FinMap.Entries.{is_sorted};
 ghost use Rattle.std.specs.List.Sorted.{IsPartitionPoint};
@@ -8,7 +8,7 @@ ghost use Rattle.fuxi_terms.specs.TallyKeys.{reported_key, count_key, credited_k
 ghost use Rattle.fuxi_terms.specs.Keys.{key_cmp};
 ghost use Rattle.fuxi_terms.specs.Counts.{count};
 ghost use Rattle.fuxi_terms.specs.Limits.{greatest_count, greatest_back};
-ghost use Rattle.app_master.specs.Usable.{is_named, usable_in};
+ghost use Rattle.app_master.specs.Usable.{is_named, usable_in, IsNext};
 
 use fuxi_terms::tally_keys::{BACK, COUNT, CREDITED, REPORTED};
 use ledger_law::Key;
@@ -62,9 +62,7 @@ fn counted(grants: &Grants, unit: UnitNo, machine: MachineNo) -> u32
 // From a number on the first machine on which grants count something of a unit, and the end where there is none before it.
 pub(crate) fn next_counted(grants: &Grants, unit: UnitNo, from: u32, end: u32) -> u32
     requires { from ≤ end }
-    ensures least { from ≤ result }
-    ensures inside { result ≤ end }
-    ensures between { (m : ℕ) → from ≤ m → m < result → count key_cmp grants.now.entries (count_key unit.0 m) ≡ 0 }
+    ensures { IsNext (λ m. count key_cmp grants.now.entries (count_key unit.0 m)) from end result }
 {
     let entries = grants.entries();
     let sought = Key {
