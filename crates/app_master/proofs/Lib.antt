@@ -4,3 +4,6 @@ pub mod CarriedLemmas
 pub mod AppCoresLemmas
 pub mod Racks
 pub mod DemandChanges
+pub mod KeysByNumbers
+pub mod EntriesWalked
+pub mod NextCounted

@@ -1,7 +1,8 @@
 -- What an application holds and may give back, of its two tallies.
-use Rattle.std.specs.Prelude.{ℕ, Bool, List, [], cond}
+use Rattle.std.specs.Prelude.{◌≡◌, ℕ, ◌<◌, ◌≤◌, Bool, List, [], Option, Some, None, cond}
 use Rattle.std.proofs.Common.{get_or}
 use Rattle.fuxi_terms.specs.Tallies.{TallyRecord}
+use Rattle.schedule_unit.specs.declared.party.MachineNo.{MachineNo}
 use Rattle.written_roles.specs.Apps.{names, usable_of}
 use Rattle.core_side.specs.Bodies.{tally_of}
 
@@ -19,3 +20,23 @@ carried_at counts u m = get_or (get_or counts m []) u 0
 -- what is held of a unit on a machine, of grants, the own demand, the boot and what is carried
 abbrev pub held_in : TallyRecord → TallyRecord → ℕ → List (List ℕ) → ℕ → ℕ → ℕ
 held_in grants demand boot counts u m = cond (is_named grants m) (usable_in grants demand boot u m) (carried_at counts u m)
+
+-- from a number on the first at which a count is not 0, and the end where there is none before it
+pub record IsNext (count : ℕ → ℕ) (from end next : ℕ) : Type 0 where
+  pub least : from ≤ next
+  pub inside : next ≤ end
+  pub between : (k : ℕ) → from ≤ k → k < next → count k ≡ 0
+  pub there : next < end → 0 < count next
+
+-- from a number on the first machine on which something is held, with how many
+pub record IsNextHeld (held : ℕ → ℕ) (from machines m n : ℕ) : Type 0 where
+  pub least : from ≤ m
+  pub inside : m < machines
+  pub number : n ≡ held m
+  pub some : 0 < n
+  pub between : (k : ℕ) → from ≤ k → k < m → held k ≡ 0
+
+-- the same, and none where nothing is held from there on
+abbrev pub NextHeld : (ℕ → ℕ) → ℕ → ℕ → Option (MachineNo × ℕ) → Type 0
+NextHeld held from machines None = (k : ℕ) → from ≤ k → k < machines → held k ≡ 0
+NextHeld held from machines (Some next) = IsNextHeld held from machines next.0.0 next.1

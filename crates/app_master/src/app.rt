@@ -5,12 +5,14 @@ ghost use Rattle.std.specs.List.{AllByRecursion};
 ghost use Rattle.std.proofs.Common.{get_or};
 ghost use Rattle.fuxi_terms.specs.Cluster.{has_rack};
 ghost use Rattle.fuxi_terms.specs.Limits.{most_jobs, most_units, most_machines, most_steps, greatest_count};
-ghost use Rattle.fuxi_terms.specs.TallyKeys.{key, greatest_demand};
+ghost use Rattle.fuxi_terms.specs.Keys.{key_cmp};
+ghost use Rattle.fuxi_terms.specs.Counts.{count};
+ghost use Rattle.fuxi_terms.specs.TallyKeys.{key, count_key, greatest_demand};
 ghost use Rattle.party_ledgers.specs.Packets.{IsFormed};
 ghost use Rattle.party_ledgers.specs.declared.packets.Kind.TheVariants.{End};
 ghost use Rattle.written_roles.specs.Apps.{AppRole, new_app, demands_alone, held_by, usable_by, given_by, app_resynced, names, Wants, WantsNear, WantsInRack, Avoids, GivesBack};
 ghost use Rattle.core_side.specs.Parcels.{role_number, IsSent};
-ghost use Rattle.app_master.specs.Usable.{is_named, usable_in, held_in};
+ghost use Rattle.app_master.specs.Usable.{is_named, usable_in, carried_at, held_in, IsNext, NextHeld};
 ghost use Rattle.app_master.specs.AppCores.{IsAppCore, StandsFor};
 ghost use Rattle.app_master.specs.AppSeen.{core_of};
 ghost use Rattle.app_master.specs.AppCommands.{Commands};
@@ -19,7 +21,7 @@ ghost use Rattle.app_master.specs.AppPackets.{is_for, HearsAlike, SendsAlike};
 use crate::asking::{join, set_number};
 use crate::carried::Carried;
 use crate::fault::AppFault;
-use crate::tallies::{given, is_named, usable};
+use crate::tallies::{given, is_named, next_counted, usable};
 use cluster_desc::Cluster;
 use core_side::{NoLimit, Side, law};
 use delta_channel::Place;
@@ -283,6 +285,30 @@ impl AppMaster {
         }
     }
 
+    /// From a number on the first machine on which something of a unit is held, with how many grants of it. Nothing where there is
+    /// no such machine.
+    pub fn next_held(&self, unit: UnitNo, from: u32) -> Option<(MachineNo, u32)>
+        requires unit { unit.0 < self.now.units }
+        requires from { from ≤ self.now.machines }
+        ensures core { NextHeld (held_in self.now.up.incoming.received self.now.up.outgoing.present self.now.up.outgoing.own self.now.carried unit.0) from self.now.machines result }
+        ensures alone { (r : AppRole) → StandsFor self.now r → NextHeld (held_by r unit.0) from self.now.machines result }
+    {
+        let mut number = from;
+        while number < self.core.machines {
+            let spot = self.next_spot(unit, number);
+            if spot >= self.core.machines {
+                return None;
+            }
+            let machine = MachineNo(spot);
+            let count = self.held(unit, machine);
+            if count > 0 {
+                return Some((machine, count));
+            }
+            number = spot + 1;
+        }
+        None
+    }
+
     /// Whether what is held on a machine is carried: the master does not name it as reported.
     pub fn carried(&self, machine: MachineNo) -> bool
         ensures core { result ≡ not (is_named self.now.up.incoming.received machine.0) }
@@ -331,6 +357,16 @@ impl AppMaster {
         ensures { result ≡ self.now.steps }
     {
         self.core.steps
+    }
+
+    // From a number on the first machine on which a unit is carried or counted, and the number of machines where there is none.
+    fn next_spot(&self, unit: UnitNo, from: u32) -> u32
+        requires unit { unit.0 < self.now.units }
+        requires from { from ≤ self.now.machines }
+        ensures { IsNext (λ m. count key_cmp self.now.up.incoming.received.entries (count_key unit.0 m) + carried_at self.now.carried unit.0 m) from self.now.machines result }
+    {
+        let counted = next_counted(self.core.up.got(), unit, from, self.core.machines);
+        self.core.carried.next(unit, from, counted)
     }
 
     // What may be given back of a unit on a machine.

@@ -1,13 +1,16 @@
 //! What an application carries from epoch to epoch.
 
-ghost use Rattle.std.specs.Prelude.{◌≡◌, ℕ, ◌<◌, ◌≤◌, cond, length, replicate, map, nat_lt, IfOk};
-ghost use Rattle.std.proofs.Common.{get_or};
-ghost use Rattle.fuxi_terms.specs.Limits.{greatest_count};
-ghost use Rattle.app_master.specs.Usable.{is_named, usable_in, carried_at};
+ghost use Rattle.std.specs.Prelude.{◌≡◌, ℕ, ◌<◌, ◌≤◌, ◌&&◌, cond, length, replicate, nat_eq, nat_lt, IfOk};
+ghost use Rattle.fuxi_terms.specs.Counts.{AreCounts, count};
+ghost use Rattle.fuxi_terms.specs.Keys.{key_cmp};
+ghost use Rattle.fuxi_terms.specs.TallyKeys.{reported_key, count_key, greatest_grant};
+ghost use Rattle.app_master.specs.Usable.{is_named, usable_in, carried_at, IsNext};
 
 use crate::tallies::{is_named, usable};
 use fuxi_terms::OutOfMemory;
 use fuxi_terms::limits::MOST_UNITS;
+use fuxi_terms::tally_keys::{COUNT, REPORTED};
+use ledger_law::Key;
 use party_ledgers::{Demand, Grants};
 use schedule_unit::{MachineNo, UnitNo};
 use std::alloc::Global;
@@ -20,19 +23,16 @@ pub(crate) struct Carried {
 }
 
 impl Model for Carried {
-    ghost use Rattle.std.specs.Prelude.{ℕ, ◌≤◌, List, length};
+    ghost use Rattle.std.specs.Prelude.{ℕ, List};
 
     ghost Value = { List (List ℕ) };
 
     ghost view = { λ c. c.counts.items };
-
-    ghost invariant = { λ c. length c.counts.items ≤ 256 };
 }
 
 impl Carried {
     /// Nothing, on each of so many machines.
     pub(crate) fn nothing(alloc: Global, machines: u32) -> Result<Carried, OutOfMemory>
-        requires { machines ≤ 256 }
         ensures { IfOk result (λ carried. carried ≡ replicate machines (replicate 8 0)) }
     {
         Ok(Carried {
@@ -49,6 +49,21 @@ impl Carried {
         self.counts[machine.0 as usize][unit.0 as usize]
     }
 
+    /// From a number on the first machine on which something of a unit is carried, and the end where there is none before it.
+    pub(crate) fn next(&self, unit: UnitNo, from: u32, end: u32) -> u32
+        requires unit { unit.0 < 8 }
+        requires from { from ≤ end }
+        requires end { end ≤ length self.now }
+        ensures { IsNext (carried_at self.now unit.0) from end result }
+    {
+        for number in from..end {
+            if self.count(unit, MachineNo(number)) > 0 {
+                return number;
+            }
+        }
+        end
+    }
+
     /// An epoch is joined: on each machine that the grants name what was held there is carried from now on.
     pub(crate) fn join(&mut self, grants: &Grants, demand: &Demand, boot: u64, units: u8)
         requires { units ≤ 8 }
@@ -59,7 +74,7 @@ impl Carried {
     }
 }
 
-// The counts of each machine that the grants name are now those of what is held there.
+// The counts of each machine that the grants name are now those of what is held there, which is nothing where they count nothing.
 fn carry(
     counts: &mut Vec<[u32; MOST_UNITS]>,
     grants: &Grants,
@@ -68,32 +83,77 @@ fn carry(
     units: u8,
 )
     requires units { units ≤ 8 }
-    requires few { length counts.old.items ≤ 256 }
     ensures long { length counts.new.items ≡ length counts.old.items }
     ensures counts { (u m : ℕ) → u < units → m < length counts.old.items → carried_at counts.new.items u m ≡ cond (is_named grants.now m) (usable_in grants.now demand.now boot u m) (carried_at counts.old.items u m) }
 {
-    for number in 0..counts.len() {
-        let machine = MachineNo(number as u32);
-        if is_named(grants, machine) {
-            counts[number] = counts_on(grants, demand, boot, units, machine);
+    clear_named(counts, grants.entries());
+    write_counted(counts, grants, demand, boot, units);
+}
+
+// Nothing is carried on the machines that these entries name.
+fn clear_named(counts: &mut Vec<[u32; MOST_UNITS]>, entries: &[(Key, u64)])
+    requires { AreCounts key_cmp greatest_grant entries.now }
+    ensures long { length counts.new.items ≡ length counts.old.items }
+    ensures counts { (u m : ℕ) → carried_at counts.new.items u m ≡ cond (nat_eq (count key_cmp entries.now (reported_key m)) 1) 0 (carried_at counts.old.items u m) }
+{
+    for (key, _) in entries {
+        if key.what != REPORTED {
+            continue;
         }
+        clear(counts, MachineNo(key.number));
     }
 }
 
-// What is held on a machine of each of the first units, and 0 of the others.
-fn counts_on(
+// Nothing is carried on the machine, if there is one.
+fn clear(counts: &mut Vec<[u32; MOST_UNITS]>, machine: MachineNo)
+    ensures long { length counts.new.items ≡ length counts.old.items }
+    ensures counts { (u m : ℕ) → carried_at counts.new.items u m ≡ cond (nat_eq m machine.0) 0 (carried_at counts.old.items u m) }
+{
+    let number = machine.0 as usize;
+    if number < counts.len() {
+        counts[number] = [0; MOST_UNITS];
+    }
+}
+
+// What is held of each unit on each machine that the grants name is carried, where they have a count of it.
+fn write_counted(
+    counts: &mut Vec<[u32; MOST_UNITS]>,
     grants: &Grants,
     demand: &Demand,
     boot: u64,
     units: u8,
-    machine: MachineNo,
-) -> [u32; MOST_UNITS]
-    requires { units ≤ 8 }
-    ensures { (u : ℕ) → u < units → get_or result u 0 ≡ usable_in grants.now demand.now boot u machine.0 }
+)
+    requires units { units ≤ 8 }
+    ensures long { length counts.new.items ≡ length counts.old.items }
+    ensures counts { (u m : ℕ) → u < units → m < length counts.old.items → carried_at counts.new.items u m ≡ cond (is_named grants.now m && nat_lt 0 (count key_cmp grants.now.entries (count_key u m))) (usable_in grants.now demand.now boot u m) (carried_at counts.old.items u m) }
 {
-    let mut counts = [0; MOST_UNITS];
-    for unit in 0..units {
-        counts[unit as usize] = usable(grants, demand, boot, UnitNo(unit), machine);
+    let entries = grants.entries();
+    for (key, _) in entries {
+        if !is_counted(grants, key, units) {
+            continue;
+        }
+        let unit = UnitNo(key.unit);
+        let machine = MachineNo(key.number);
+        let number = usable(grants, demand, boot, unit, machine);
+        put(counts, unit, machine, number);
     }
-    counts
+}
+
+// Whether an entry of the key is a count of one of the first units, on a machine that the grants name.
+fn is_counted(grants: &Grants, key: &Key, units: u8) -> bool
+    ensures { result ≡ (nat_eq key.now.what 2 && (nat_lt key.now.unit units && is_named grants.now key.now.number)) }
+{
+    key.what == COUNT && (key.unit < units && is_named(grants, MachineNo(key.number)))
+}
+
+// So many grants of a unit are carried on the machine, if there is one.
+fn put(counts: &mut Vec<[u32; MOST_UNITS]>, unit: UnitNo, machine: MachineNo, count: u32)
+    requires { unit.0 < 8 }
+    ensures long { length counts.new.items ≡ length counts.old.items }
+    ensures counts { (u m : ℕ) → m < length counts.old.items → carried_at counts.new.items u m ≡ cond (nat_eq u unit.0 && nat_eq m machine.0) count (carried_at counts.old.items u m) }
+{
+    let number = machine.0 as usize;
+    if number < counts.len() {
+        counts[number][unit.0 as usize] = count;
+    }
 }

@@ -1,11 +1,14 @@
 //! What an application holds of what its grants name, and may give back.
 
-ghost use Rattle.std.specs.Prelude.{◌≡◌, ◌≤◌};
+ghost use Rattle.std.specs.Prelude.{◌≡◌, ◌≤◌, ◌&&◌, T, true, false, nat_eq};
+ghost use Rattle.std.specs.Ordering.{is_lt};
+ghost use Rattle.std.specs.FinMap.Entries.{is_sorted};
+ghost use Rattle.std.specs.List.Sorted.{IsPartitionPoint};
 ghost use Rattle.fuxi_terms.specs.TallyKeys.{reported_key, count_key, credited_key, back_key};
 ghost use Rattle.fuxi_terms.specs.Keys.{key_cmp};
 ghost use Rattle.fuxi_terms.specs.Counts.{count};
 ghost use Rattle.fuxi_terms.specs.Limits.{greatest_count, greatest_back};
-ghost use Rattle.app_master.specs.Usable.{is_named, usable_in};
+ghost use Rattle.app_master.specs.Usable.{is_named, usable_in, IsNext};
 
 use fuxi_terms::tally_keys::{BACK, COUNT, CREDITED, REPORTED};
 use ledger_law::Key;
@@ -54,6 +57,43 @@ fn counted(grants: &Grants, unit: UnitNo, machine: MachineNo) -> u32
 {
     let counts = grants.entries();
     number_of(grants, COUNT, unit, machine) as u32
+}
+
+// From a number on the first machine on which grants count something of a unit, and the end where there is none before it.
+pub(crate) fn next_counted(grants: &Grants, unit: UnitNo, from: u32, end: u32) -> u32
+    requires { from ≤ end }
+    ensures { IsNext (λ m. count key_cmp grants.now.entries (count_key unit.0 m)) from end result }
+{
+    let entries = grants.entries();
+    let sought = Key {
+        what: COUNT,
+        unit: unit.0,
+        number: from,
+    };
+    let place = place_of(entries, &sought);
+    if place >= entries.len() {
+        return end;
+    }
+    let (key, _) = entries[place];
+    if !is_count(&key, unit) {
+        return end;
+    }
+    key.number.min(end)
+}
+
+// The place of the first entry whose key is not below this one.
+fn place_of(entries: &[(Key, u64)], sought: &Key) -> usize
+    requires { T (is_sorted key_cmp entries.now) }
+    ensures { IsPartitionPoint (λ e. is_lt (key_cmp e.0 sought.now) ≡ true) (λ e. is_lt (key_cmp e.0 sought.now) ≡ false) entries.now result }
+{
+    entries.partition_point(|entry| entry.0.order(sought).is_lt())
+}
+
+// Whether a key of grants is that of a count of the unit.
+fn is_count(key: &Key, unit: UnitNo) -> bool
+    ensures { result ≡ (nat_eq key.now.what 2 && nat_eq key.now.unit unit.0) }
+{
+    key.what == COUNT && key.unit == unit.0
 }
 
 // What an application of this boot holds of a unit on a machine that its grants name: their count without what was

@@ -1,2 +1,2 @@
-mod Walks
+mod HeldWalk
 mod Loops

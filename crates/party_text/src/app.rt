@@ -1,13 +1,13 @@
 //! The lines of an application.
 
-ghost use Rattle.std.specs.Prelude.{◌≡◌, ◌<◌, OnOk};
+ghost use Rattle.std.specs.Prelude.{◌≡◌, ◌<◌, [], ◌∷◌, OnOk};
 ghost use Rattle.std.specs.List.{flat_map};
 ghost use Rattle.fuxi_terms.specs.Lists.{below};
-ghost use Rattle.written_roles.specs.Apps.{AppRole};
+ghost use Rattle.written_roles.specs.Apps.{AppRole, held_by};
 ghost use Rattle.schedule_text.specs.Writing.{Begins};
 ghost use Rattle.app_master.specs.AppCores.{StandsFor};
-ghost use Rattle.written_join.specs.States.{unit_lines, app_lines};
-ghost use Rattle.party_text.specs.Texts.{Shows, held_lines};
+ghost use Rattle.written_join.specs.States.{hold_line, unit_lines, app_lines};
+ghost use Rattle.party_text.specs.Texts.{Shows};
 
 use crate::line::write_line;
 use app_master::AppMaster;
@@ -15,24 +15,20 @@ use fuxi_terms::OutOfMemory;
 use schedule_text::Output;
 use schedule_unit::{AppNo, MachineNo, UnitNo};
 
-// What is held of a unit on a machine, where that is not 0.
+// What is held of a unit on a machine, which is so many.
 fn write_hold(
     app: &AppMaster,
     job: AppNo,
     unit: UnitNo,
     machine: MachineNo,
+    count: u32,
     out: &mut Vec<u8>,
 ) -> Result<(), OutOfMemory>
     requires number { job.0 ≡ app.now.job }
-    requires unit { unit.0 < app.now.units }
-    requires machine { machine.0 < app.now.machines }
-    ensures ok { OnOk result ((r : AppRole) → StandsFor app.now r → Shows (held_lines r unit.0 machine.0) out.old.items out.new.items) }
+    requires held { (r : AppRole) → StandsFor app.now r → count ≡ held_by r unit.0 machine.0 }
+    ensures ok { OnOk result ((r : AppRole) → StandsFor app.now r → Shows (hold_line r unit.0 machine.0 ∷ []) out.old.items out.new.items) }
     ensures begins { Begins out.old.items out.new.items }
 {
-    let count = app.held(unit, machine);
-    if count == 0 {
-        return Ok(());
-    }
     if app.carried(machine) {
         match write_line(&Output::Carry(job, unit, machine, count), out) {
             Ok(()) => return Ok(()),
@@ -45,7 +41,7 @@ fn write_hold(
     }
 }
 
-// What is held of a unit, machine by machine.
+// What is held of a unit, from one machine to the next on which there is some.
 #[tactic(auto, using(written_join::proofs::ShowsLemmas::begins_then))]
 fn write_unit(
     app: &AppMaster,
@@ -58,11 +54,15 @@ fn write_unit(
     ensures ok { OnOk result ((r : AppRole) → StandsFor app.now r → Shows (unit_lines r unit.0) out.old.items out.new.items) }
     ensures begins { Begins out.old.items out.new.items }
 {
-    for number in 0..app.machines() {
-        match write_hold(app, job, unit, MachineNo(number), out) {
+    // That a machine's number is below the greatest is known once the number of machines is read.
+    let _machines = app.machines();
+    let mut from = 0;
+    while let Some((machine, count)) = app.next_held(unit, from) {
+        match write_hold(app, job, unit, machine, count, out) {
             Ok(()) => {}
             Err(refusal) => return Err(refusal),
         }
+        from = machine.0 + 1;
     }
     Ok(())
 }

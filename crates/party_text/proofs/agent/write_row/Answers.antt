@@ -1,4 +1,4 @@
-use Rattle.std.proofs.Common.{[], ◌∷◌, sym, ◌∙◌, ap}
+use Rattle.std.proofs.Common.{[], ◌∷◌, ap}
 use Rattle.party_ledgers.specs.Entries.{entry_of}
 use Rattle.written_join.specs.States.{row_line}
 use Rattle.schedule_text.specs.PrintedLines.{line_text}
