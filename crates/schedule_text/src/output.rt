@@ -89,6 +89,7 @@ pub fn write_output(line: &Output, out: &mut Vec<u8>) -> Result<(), OutOfMemory>
     ensures ok { OnOk result (out.new.items ≡ out.old.items ++ output_text line.now) }
     ensures err { OnErr result (out.new.items ≡ out.old.items) }
 {
+    let mut text = Tail::new();
     match line {
         Output::Sent {
             number,
@@ -98,16 +99,11 @@ pub fn write_output(line: &Output, out: &mut Vec<u8>) -> Result<(), OutOfMemory>
             inc,
             seq,
             bytes,
-        } => {
-            let line = sent_line(*number, from, to, *kind, *inc, *seq, *bytes);
-            Ok(out.extend_from_slice(line.as_slice())?)
-        }
-        Output::Heard(number, fresh, what) => {
-            let line = heard_line(*number, *fresh, what);
-            Ok(out.extend_from_slice(line.as_slice())?)
-        }
-        _ => write_other(line, out),
+        } => put_sent_line(&mut text, *number, from, to, *kind, *inc, *seq, *bytes),
+        Output::Heard(number, fresh, what) => put_heard_line(&mut text, *number, *fresh, what),
+        _ => return write_other(line, out),
     }
+    Ok(out.extend_from_slice(text.as_slice())?)
 }
 
 // The same of a line that is neither of a packet that is sent nor of one that is heard.
@@ -127,7 +123,8 @@ fn write_other(line: &Output, out: &mut Vec<u8>) -> Result<(), OutOfMemory>
 }
 
 // The line of a packet that is sent.
-fn sent_line(
+fn put_sent_line(
+    line: &mut Tail,
     number: u64,
     from: &Party,
     to: &Party,
@@ -135,29 +132,27 @@ fn sent_line(
     inc: u64,
     seq: u64,
     bytes: u64,
-) -> Tail
-    ensures { result ≡ ended (codes "sent" ∷ decimal number ∷ party_word (as_party from.now) ∷ party_word (as_party to.now) ∷ kind_word (as_kind kind) ∷ place_word inc seq ∷ decimal bytes ∷ []) }
+)
+    requires { line.old ≡ [] }
+    ensures { line.new ≡ ended (codes "sent" ∷ decimal number ∷ party_word (as_party from.now) ∷ party_word (as_party to.now) ∷ kind_word (as_kind kind) ∷ place_word inc seq ∷ decimal bytes ∷ []) }
 {
-    let mut line = Tail::new();
     line.put(b'\n');
     line.put_number(bytes);
     line.put(b' ');
-    put_sent(&mut line, from, to, kind, inc, seq);
+    put_sent(line, from, to, kind, inc, seq);
     line.put_number(number);
     line.put_word(b"sent ");
-    line
 }
 
 // The line of a packet that is heard.
-fn heard_line(number: u64, fresh: bool, what: &What) -> Tail
-    ensures { result ≡ ended (codes "heard" ∷ decimal number ∷ cond fresh (codes "new" ∷ what_word what.now ∷ []) (what_word what.now ∷ [])) }
+fn put_heard_line(line: &mut Tail, number: u64, fresh: bool, what: &What)
+    requires { line.old ≡ [] }
+    ensures { line.new ≡ ended (codes "heard" ∷ decimal number ∷ cond fresh (codes "new" ∷ what_word what.now ∷ []) (what_word what.now ∷ [])) }
 {
-    let mut line = Tail::new();
     line.put(b'\n');
-    put_heard(&mut line, fresh, what);
+    put_heard(line, fresh, what);
     line.put_number(number);
     line.put_word(b"heard ");
-    line
 }
 
 /// Appends the line of a packet's frame, in hexadecimal digits, and a newline. Leaves `out` as it was where
