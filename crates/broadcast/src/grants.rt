@@ -1,6 +1,6 @@
 //! Grants, by job.
 
-ghost use Rattle.std.specs.Prelude.{◌≡◌, ◌<◌, ◌^◌, ◌||◌, true, false, nat_eq, ℕ, T, List, Some, None, map, IfOk, OnOk};
+ghost use Rattle.std.specs.Prelude.{◌≡◌, ◌<◌, ◌^◌, ◌||◌, ◌++◌, true, false, nat_eq, ℕ, T, List, Some, None, map, IfOk, OnOk};
 ghost use Rattle.std.specs.Ordering.{nat_cmp};
 ghost use Rattle.std.specs.List.Sorted.{IsNonDecreasingBy, IsStrictlySortedBy};
 ghost use Rattle.std.specs.FinMap.Entries.{is_sorted};
@@ -19,7 +19,7 @@ ghost use Rattle.broadcast.specs.OneJob.{counts_at, under_job, IsNotOf, AreNumbe
 
 use crate::job_grants::show_grants;
 use crate::law;
-use crate::numbered::{each_once, of_number};
+use crate::numbered::{each_once, run_of};
 use crate::spots::has_place;
 use core_side::Side;
 use fuxi_terms::limits::MOST_MACHINES;
@@ -80,12 +80,13 @@ pub fn show_all_grants(
     let _cluster = table.cluster();
     let counts = counts_at(alloc, table, spots)?;
     let jobs = jobs_due(alloc, &counts, news, apps.len())?;
+    let mut numbers = Vec::new(alloc);
     for job in &jobs {
         let app = *job;
         if app >= apps.len() {
             continue;
         }
-        show_slot(&mut apps[app], alloc, app, &counts, news)?;
+        show_slot(&mut apps[app], alloc, app, &counts, news, &mut numbers)?;
     }
     Ok(())
 }
@@ -143,13 +144,14 @@ fn put_job(jobs: &mut Vec<usize>, job: Option<AppNo>) -> Result<(), AllocError>
     }
 }
 
-// Shows the application of a slot its grants, where there is one.
+// Shows the application of a slot its grants, where there is one. The numbers lie in a place that is lent to one after another.
 fn show_slot(
     slot: &mut Option<Side<Grants, Demand>>,
     alloc: Global,
     app: usize,
     counts: &[(usize, (Key, u64))],
     news: &News,
+    numbers: &mut Vec<(Key, u64)>,
 ) -> Result<(), OutOfMemory>
     requires last { (d : App) → slot.old ≡ Some d → d.outgoing.last < 2 ^ 62 }
     requires rising { IsNonDecreasingBy (λ e. e.0) counts.now }
@@ -159,10 +161,7 @@ fn show_slot(
     ensures some { OnOk result ((d : App) → slot.old ≡ Some d → SlotIsShown news.now app (of_number app counts.now) d slot.new) }
 {
     match slot {
-        Some(side) => {
-            let counts = of_number(alloc, counts, app)?;
-            show_one(side, alloc, app, &counts, news)
-        }
+        Some(side) => show_one(side, alloc, app, counts, news, numbers),
         None => Ok(()),
     }
 }
@@ -172,72 +171,92 @@ fn show_one(
     side: &mut Side<Grants, Demand>,
     alloc: Global,
     app: usize,
-    counts: &[(Key, u64)],
+    counts: &[(usize, (Key, u64))],
     news: &News,
+    numbers: &mut Vec<(Key, u64)>,
 ) -> Result<(), OutOfMemory>
     requires last { side.old.outgoing.last < 2 ^ 62 }
-    requires counts { AreNumbersOf 2 counts.now }
+    requires rising { IsNonDecreasingBy (λ e. e.0) counts.now }
+    requires counts { AreNumbersOf 2 (of_number app counts.now) }
     requires news { IsNews news.now }
-    ensures { OnOk result ((t : TableRecord) (now : List ℕ) → JobIsBefore t news.now now app counts.now side.old → ShowsGrants t news.now now app side.old side.new) }
+    ensures { OnOk result ((t : TableRecord) (now : List ℕ) → JobIsBefore t news.now now app (of_number app counts.now) side.old → ShowsGrants t news.now now app side.old side.new) }
 {
     let boot = side.peer();
     let _entries = side.sent().entries();
     law::grants_follow_tables();
     law::grants_have_numbers();
     law::numbers_are_set();
-    let numbers = numbers_of(alloc, news, app, counts)?;
-    show_grants(side, alloc, boot, &numbers, is_job(news.admitted, app))
+    set_numbers(numbers, news, app, counts)?;
+    show_grants(side, alloc, boot, numbers, is_job(news.admitted, app))
 }
 
-// All numbers that are set in the grants of a job.
-fn numbers_of(
-    alloc: Global,
+// All numbers that are set in the grants of a job, in place of what was there.
+fn set_numbers(
+    numbers: &mut Vec<(Key, u64)>,
     news: &News,
     app: usize,
-    counts: &[(Key, u64)],
-) -> Result<Vec<(Key, u64)>, OutOfMemory>
-    ensures { IfOk result (λ numbers. numbers.items ≡ numbers_of news.now app counts.now) }
+    counts: &[(usize, (Key, u64))],
+) -> Result<(), OutOfMemory>
+    requires { IsNonDecreasingBy (λ e. e.0) counts.now }
+    ensures { OnOk result (numbers.new.items ≡ numbers_of news.now app (of_number app counts.now)) }
 {
-    let mut numbers = reported_to(alloc, news, app)?;
-    numbers.extend_from_slice(counts)?;
+    numbers.clear();
+    put_machines(numbers, news, app)?;
+    put_counts(numbers, app, counts)?;
     numbers.extend_from_slice(credited_to(news, app))?;
-    Ok(numbers)
+    Ok(())
 }
 
 // The machines that are set in the grants of a job.
-fn reported_to(alloc: Global, news: &News, app: usize) -> Result<Vec<(Key, u64)>, OutOfMemory>
-    ensures { IfOk result (λ numbers. numbers.items ≡ reported_numbers (machines_of news.now app)) }
+fn put_machines(numbers: &mut Vec<(Key, u64)>, news: &News, app: usize) -> Result<(), OutOfMemory>
+    ensures { OnOk result (numbers.new.items ≡ numbers.old.items ++ reported_numbers (machines_of news.now app)) }
 {
     if is_job(news.admitted, app) {
-        reported_all(alloc, &news.machines)
+        put_all(numbers, &news.machines)
     } else {
-        reported_now(alloc, news.reported)
+        put_reported(numbers, news.reported)
     }
 }
 
 // Each of these machines as reported.
-fn reported_all(alloc: Global, machines: &[MachineNo]) -> Result<Vec<(Key, u64)>, OutOfMemory>
-    ensures { IfOk result (λ numbers. numbers.items ≡ reported_numbers (map (λ (m : MachineSeen). m.0) machines.now)) }
+fn put_all(numbers: &mut Vec<(Key, u64)>, machines: &[MachineNo]) -> Result<(), OutOfMemory>
+    ensures { OnOk result (numbers.new.items ≡ numbers.old.items ++ reported_numbers (map (λ (m : MachineSeen). m.0) machines.now)) }
 {
-    let mut numbers = Vec::new(alloc);
     for machine in machines {
         numbers.push(reported(*machine))?;
     }
-    Ok(numbers)
+    Ok(())
 }
 
 // The machine that is reported now, where it may be one.
-fn reported_now(alloc: Global, machine: Option<MachineNo>) -> Result<Vec<(Key, u64)>, OutOfMemory>
-    ensures { IfOk result (λ numbers. numbers.items ≡ reported_numbers (reported_now machine)) }
+fn put_reported(
+    numbers: &mut Vec<(Key, u64)>,
+    machine: Option<MachineNo>,
+) -> Result<(), OutOfMemory>
+    ensures { OnOk result (numbers.new.items ≡ numbers.old.items ++ reported_numbers (reported_now machine)) }
 {
-    let mut numbers = Vec::new(alloc);
     match machine {
         Some(machine) if (machine.0 as usize) < MOST_MACHINES => {
             numbers.push(reported(machine))?;
-            Ok(numbers)
+            Ok(())
         }
-        _ => Ok(numbers),
+        _ => Ok(()),
     }
+}
+
+// What the table has of a job at the spots.
+fn put_counts(
+    numbers: &mut Vec<(Key, u64)>,
+    app: usize,
+    counts: &[(usize, (Key, u64))],
+) -> Result<(), OutOfMemory>
+    requires { IsNonDecreasingBy (λ e. e.0) counts.now }
+    ensures { OnOk result (numbers.new.items ≡ numbers.old.items ++ of_number app counts.now) }
+{
+    for count in run_of(counts, app) {
+        numbers.push(count.1)?;
+    }
+    Ok(())
 }
 
 // What says that a machine is reported.

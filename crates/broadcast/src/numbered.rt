@@ -47,7 +47,7 @@ pub(crate) fn of_number<T: Copy>(
 }
 
 // The entries with this number, which stand side by side.
-fn run_of<T: Copy>(entries: &[(usize, T)], number: usize) -> &[(usize, T)]
+pub(crate) fn run_of<T: Copy>(entries: &[(usize, T)], number: usize) -> &[(usize, T)]
     requires { IsNonDecreasingBy (λ e. e.0) entries.now }
     ensures { result.now ≡ filter (λ e. nat_eq e.0 number) entries.now }
 {

@@ -1,23 +1,18 @@
 use Rattle.std.proofs.Common.{◌≡◌, ℕ, List, Some, refl, sym, ◌∙◌, subst}
 use Rattle.std.proofs.lemmas.Result.{on_ok_weaker}
-use Rattle.fuxi_terms.specs.declared.Key.{Key}
 use Rattle.grant_table.specs.GrantTables.{TableRecord}
 use Rattle.broadcast.specs.AllShown.{App, ShowsGrants}
 use Rattle.broadcast.specs.OfNumbers.{of_number}
-use Rattle.broadcast.specs.OneJob.{AreNumbersOf, JobIsBefore}
+use Rattle.broadcast.specs.OneJob.{JobIsBefore}
 use Rattle.broadcast.proofs.grants.show_slot.Goals as goal
 
-pub show_one-requires-clause-counts : goal.show_one-requires-clause-counts
-show_one-requires-clause-counts c = subst (AreNumbersOf 2) (sym (c.deref.ensures.value ∙ c.in_ok-counts-in-Some.ensures)) c.requires.counts
-
-pub returns-in_ok-counts-in-Some-clause-some : goal.returns-in_ok-counts-in-Some-clause-some
-returns-in_ok-counts-in-Some-clause-some c = on_ok_weaker c.show_one.result (λ shows d e.
+pub returns-in-Some-clause-some : goal.returns-in-Some-clause-some
+returns-in-Some-clause-some c = on_ok_weaker c.show_one.result (λ shows d e.
     let both : Some c.in-Some.side ≡ Some d = sym c.in-Some.is ∙ e in
     let same : c.in-Some.side ≡ d = cc in
     record {
       new = c.show_one.new.side;
       there = refl;
-      shows = subst (λ (x : App). (t : TableRecord) (now : List ℕ) → JobIsBefore t c.args.news.now now c.args.app (of_number c.args.app c.args.counts.now) x → ShowsGrants t c.args.news.now now c.args.app x c.show_one.new.side) same
-          (subst (λ (cs : List (Key × ℕ)). (t : TableRecord) (now : List ℕ) → JobIsBefore t c.args.news.now now c.args.app cs c.in-Some.side → ShowsGrants t c.args.news.now now c.args.app c.in-Some.side c.show_one.new.side) (c.deref.ensures.value ∙ c.in_ok-counts-in-Some.ensures) shows);
+      shows = subst (λ (x : App). (t : TableRecord) (now : List ℕ) → JobIsBefore t c.args.news.now now c.args.app (of_number c.args.app c.args.counts.now) x → ShowsGrants t c.args.news.now now c.args.app x c.show_one.new.side) same shows;
     })
     c.show_one.ensures
