@@ -1,5 +1,6 @@
 -- What is kept of each machine, and what of a unit that waits.
 use Rattle.std.specs.Prelude.{◌≡◌, ℕ, ◌+◌, ◌<◌, ◌≤◌, Bool, true, false, not, nat_eq, nat_lt, ◌&&◌, ◌||◌, List, length, map, get_or, slice_index, slice_get, Some, None}
+use Rattle.std.specs.Global.{Vec}
 use Rattle.std.specs.List.{AllByRecursion, flat_map}
 use Rattle.fuxi_terms.specs.Cluster.{has_at, limit_at, is_narrow}
 use Rattle.fuxi_terms.specs.Jobs.{priority_of, group_of, size_at}
@@ -23,6 +24,22 @@ pub record AreHolders (t : TableRecord) (units : List Entry) : Type 0 where
   pub each : AllByRecursion (IsEntry t) units
   pub few : length units ≤ 1000000
   pub lists : (m : ℕ) → flat_map (entry_on t.entries m) (map pair_of units) ≡ entries_on (board_of t) t.entries m
+
+-- of these units those that have grants on a machine, with their number there
+pub record IsListed (t : TableRecord) (units : List Entry) (m : ℕ) (entries : List Entry) : Type 0 where
+  pub walk : map (written m) entries ≡ flat_map (entry_on t.entries m) (map pair_of units)
+  pub each : AllByRecursion (IsEntry t) entries
+  pub few : length entries ≤ length units
+
+pub record AreListed (t : TableRecord) (units : List Entry) (lists : List (Vec Entry)) : Type 0 where
+  pub long : length lists ≡ length t.cluster.machines
+  pub each : (m : ℕ) (d : Vec Entry) → m < length lists → IsListed t units m (get_or lists m d).items
+
+-- the entries of a machine, in the order of the walk
+pub record IsWalked (t : TableRecord) (m : ℕ) (entries : List Entry) : Type 0 where
+  pub walk : map (written m) entries ≡ entries_on (board_of t) t.entries m
+  pub each : AllByRecursion (IsEntry t) entries
+  pub few : length entries ≤ 1000000
 
 -- a unit without victims, wherever it is tried
 pub record HasNoVictims (t : TableRecord) (p : Pair) : Type 0 where

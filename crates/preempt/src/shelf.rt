@@ -5,17 +5,18 @@ ghost use Rattle.std.specs.Prelude.{◌≡◌, ℕ, ◌+◌, ◌-◌, ◌<◌, �
 ghost use Rattle.std.specs.List.{All, AllByRecursion};
 ghost use Rattle.preempt.specs.Given.{AreGroups, AreSpared, IsEntry, IsGroup};
 ghost use Rattle.grant_table.specs.GrantTables.{TableRecord};
-ghost use Rattle.preempt.specs.Shelves.{AreHolders, IsShelf, AreShelves, IsLow, IsLoose, is_loose, is_other_loose, spares, may_take_some};
+ghost use Rattle.preempt.specs.Shelves.{AreHolders, IsShelf, IsWalked, AreShelves, IsLow, IsLoose, is_loose, is_other_loose, spares, may_take_some};
 
 use crate::entry::{Entry, GroupUse, Need, raised, recounted};
 use crate::number::spared_number;
 use crate::parts::Parts;
-use crate::walk::entries_on;
+use crate::walk::lists_of;
 use cluster_desc::Cluster;
 use fuxi_terms::OutOfMemory;
 use grant_table::{GrantTable, Steps};
 use schedule_unit::{GroupNo, MachineNo};
 use std::alloc::Global;
+use std::mem;
 use std::sync::ledger::Ledger;
 
 /// The groups that have a grant on a machine that their quota spares.
@@ -199,19 +200,19 @@ fn used_of(has: &[u64; 8], free: &[u64; 8]) -> [u64; 8]
     used
 }
 
-// What is kept of a machine.
+// What is kept of a machine, from its entries in the order of the walk.
 fn shelf_of<L: Ledger>(
     alloc: Global,
     table: &GrantTable,
     groups: &[GroupUse],
-    holders: &[Entry],
+    entries: Vec<Entry>,
     machine: MachineNo,
     parts: &mut Parts,
     steps: &mut Steps<L>,
 ) -> Result<Shelf, OutOfMemory>
     requires machine { machine.0 < length table.now.cluster.machines }
     requires groups { AreGroups table.now groups.now }
-    requires holders { AreHolders table.now holders.now }
+    requires entries { IsWalked table.now machine.0 entries.items }
     ensures shelf { IfOk result (λ shelf. IsShelf table.now groups.now machine.0 shelf) }
     ensures step { steps.new ≡ steps.old + 1 }
 {
@@ -219,7 +220,6 @@ fn shelf_of<L: Ledger>(
     let cluster = table.cluster();
     let resources = cluster.resources() as usize;
     let has = cluster.machine(machine).has.q;
-    let entries = entries_on(alloc, table, holders, machine)?;
     let lowest = lowest_of(&entries);
     let loose = loose_of(&entries, resources, groups);
     let spared = spared_of(alloc, &entries, loose, resources, groups, parts)?;
@@ -247,10 +247,12 @@ pub(crate) fn shelves_of<L: Ledger>(
     ensures shelves { IfOk result (λ shelves. AreShelves table.now groups.now shelves.items) }
     ensures steps { steps.new ≤ steps.old + length table.now.cluster.machines }
 {
-    let mut shelves = Vec::with_capacity(alloc, table.cluster().machines() as usize)?;
+    let mut lists = lists_of(alloc, table, holders)?;
+    let mut shelves = Vec::with_capacity(alloc, lists.len())?;
     for number in 0..table.cluster().machines() {
+        let entries = mem::replace(&mut lists[number as usize], Vec::new(alloc));
         let machine = MachineNo(number);
-        shelves.push(shelf_of(alloc, table, groups, holders, machine, parts, steps)?)?;
+        shelves.push(shelf_of(alloc, table, groups, entries, machine, parts, steps)?)?;
     }
     Ok(shelves)
 }

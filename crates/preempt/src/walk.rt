@@ -1,19 +1,20 @@
 //! The admitted units in the order in which grants are walked: lower priority, then greater job, then greater
 //! unit. That order is the same on each machine.
 
-ghost use Rattle.std.specs.Prelude.{◌≡◌, ℕ, ◌+◌, ◌<◌, ◌≤◌, ◌++◌, Some, IfOk, OnOk, length, map, filter, slice_get, nat_eq};
-ghost use Rattle.std.specs.List.{AllByRecursion, flat_map};
+ghost use Rattle.std.specs.Prelude.{◌≡◌, ℕ, ◌+◌, ◌<◌, ◌≤◌, List, [], ◌∷◌, ◌++◌, Some, IfOk, OnOk, length, map, filter, slice_get, nat_eq};
+ghost use Rattle.std.specs.List.{All, AllByRecursion};
 ghost use Rattle.fuxi_terms.specs.Jobs.{unit_count, unit_of, group_of, priority_of};
 ghost use Rattle.fuxi_terms.specs.Lists.{below};
 ghost use Rattle.grant_table.specs.GrantTables.{TableRecord, IsSound, as_known};
-ghost use Rattle.preempt.specs.Given.{IsEntry, pair_of, written};
-ghost use Rattle.preempt.specs.Shelves.{AreHolders};
-ghost use Rattle.preempt.specs.Walks.{holds_some, units_in, all_units, backward, of_priority, entries_by_priority, entry_on};
+ghost use Rattle.preempt.specs.Given.{IsEntry, pair_of};
+ghost use Rattle.preempt.specs.Shelves.{AreHolders, AreListed};
+ghost use Rattle.preempt.specs.declared.entry.Entry.{Entry};
+ghost use Rattle.preempt.specs.Walks.{holds_some, units_in, all_units, backward, of_priority, entries_by_priority};
 
 use crate::entry::{Entry, recounted};
 use fuxi_terms::OutOfMemory;
 use grant_table::GrantTable;
-use schedule_unit::{AppNo, Job, MachineNo, UnitNo};
+use schedule_unit::{AppNo, Job, UnitNo};
 use std::alloc::Global;
 
 /// A unit of an admitted job, with no grants.
@@ -108,25 +109,47 @@ pub(crate) fn holders_by_priority(
     by_priority(alloc, &holders)
 }
 
-/// Of units those that have grants on a machine, with their number there.
-pub(crate) fn entries_on(
+// An empty list for each of so many machines.
+fn empty_lists(alloc: Global, machines: u32) -> Result<Vec<Vec<Entry>>, OutOfMemory>
+    ensures long { IfOk result (λ lists. length lists.items ≡ machines) }
+    ensures empty { IfOk result (λ lists. All (λ list. list.items ≡ []) lists.items) }
+{
+    let mut lists = Vec::with_capacity(alloc, machines as usize)?;
+    for machine in 0..machines {
+        lists.push(Vec::new(alloc))?;
+    }
+    Ok(lists)
+}
+
+// With one unit behind those that are listed, on each machine where it has grants. Its counts are read once.
+fn list_unit(lists: &mut Vec<Vec<Entry>>, table: &GrantTable, e: &Entry) -> Result<(), OutOfMemory>
+    requires entry { IsEntry table.now e.now }
+    requires long { length lists.old.items ≡ length table.now.cluster.machines }
+    ensures { OnOk result ((units : List Entry) → AreListed table.now units lists.old.items → AreListed table.now (units ++ e.now ∷ []) lists.new.items) }
+{
+    let counts = table.counts(e.app, e.unit);
+    for machine in 0..counts.len() {
+        let count = counts[machine];
+        if count == 0 {
+            continue;
+        }
+        lists[machine].push(recounted(e, count))?;
+    }
+    Ok(())
+}
+
+/// By machine the units that have grants there, with their number there, in their order.
+pub(crate) fn lists_of(
     alloc: Global,
     table: &GrantTable,
     units: &[Entry],
-    machine: MachineNo,
-) -> Result<Vec<Entry>, OutOfMemory>
-    requires machine { machine.0 < length table.now.cluster.machines }
-    requires units { AllByRecursion (IsEntry table.now) units.now }
-    ensures entries { IfOk result (λ entries. map (written machine.0) entries.items ≡ flat_map (entry_on table.now.entries machine.0) (map pair_of units.now)) }
-    ensures each { IfOk result (λ entries. AllByRecursion (IsEntry table.now) entries.items) }
-    ensures few { IfOk result (λ entries. length entries.items ≤ length units.now) }
+) -> Result<Vec<Vec<Entry>>, OutOfMemory>
+    requires { AllByRecursion (IsEntry table.now) units.now }
+    ensures { IfOk result (λ lists. AreListed table.now units.now lists.items) }
 {
-    let mut entries = Vec::new(alloc);
+    let mut lists = empty_lists(alloc, table.cluster().machines())?;
     for e in units {
-        let count = table.held_on(e.app, e.unit, machine);
-        if count > 0 {
-            entries.push(recounted(e, count))?;
-        }
+        list_unit(&mut lists, table, e)?;
     }
-    Ok(entries)
+    Ok(lists)
 }

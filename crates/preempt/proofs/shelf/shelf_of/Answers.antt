@@ -17,11 +17,11 @@ returns-clause-shelf g c =
     let count : c.resources-resources.result ≡ t.cluster.resources = c.resources-resources.ensures.number ∙ ap (λ (x : ClusterRecord). x.resources) same in
     let has : (i : ℕ) → get_or c.machine.result.now.has.q i 0 ≡ has_at t.cluster m i = λ i. has_is c.cluster-cluster.result.now.machines m c.machine.result.now c.machine.ensures i ∙ ap (λ (x : ClusterRecord). has_at x m i) same in
     record {
-      walk = c.in_ok-entries.ensures.entries ∙ c.requires.holders.lists m;
-      each = c.in_ok-entries.ensures.each;
-      few = let a = c.in_ok-entries.ensures.few in let b = c.requires.holders.few in omega (arith, a, b);
-      spared = subst (λ es. AreSpared t m es c.in_ok-spared.spared.items) c.deref-3.ensures.value (c.in_ok-spared.ensures.spared t m (subst (AllByRecursion (IsEntry t)) (sym c.deref-3.ensures.value) c.in_ok-entries.ensures.each) c.requires.groups count);
-      few_spared = let l = c.in_ok-spared.ensures.few in let d = ap length c.deref-3.ensures.value in let a = c.in_ok-entries.ensures.few in let b = c.requires.holders.few in omega (arith, l, d, a, b);
+      walk = c.requires.entries.walk;
+      each = c.requires.entries.each;
+      few = c.requires.entries.few;
+      spared = subst (λ es. AreSpared t m es c.in_ok-spared.spared.items) c.deref-3.ensures.value (c.in_ok-spared.ensures.spared t m (subst (AllByRecursion (IsEntry t)) (sym c.deref-3.ensures.value) c.requires.entries.each) c.requires.groups count);
+      few_spared = let l = c.in_ok-spared.ensures.few in let d = ap length c.deref-3.ensures.value in let a = c.requires.entries.few in omega (arith, l, d, a);
       has = λ i lt. has i;
       used = λ i lt.
           let u = c.used_of.ensures i (omega (arith, lt, eight)) in
@@ -30,7 +30,7 @@ returns-clause-shelf g c =
           let w = c.free-free.ensures.fits i in
           omega (arith, u, h, f, w);
       low = subst (AllByRecursion (IsLow c.lowest_of-lowest.result)) c.deref.ensures.value c.lowest_of-lowest.ensures;
-      loose_are = subst (λ n. AllByRecursion (IsLoose n c.args.groups.now c.loose_of-loose.result) c.in_ok-entries.entries.items) count (subst (AllByRecursion (IsLoose c.resources-resources.result c.args.groups.now c.loose_of-loose.result)) c.deref-2.ensures.value c.loose_of-loose.ensures);
+      loose_are = subst (λ n. AllByRecursion (IsLoose n c.args.groups.now c.loose_of-loose.result) c.args.entries.items) count (subst (AllByRecursion (IsLoose c.resources-resources.result c.args.groups.now c.loose_of-loose.result)) c.deref-2.ensures.value c.loose_of-loose.ensures);
     }
 
 pub spared_of-requires-clause-loose : goal.spared_of-requires-clause-loose
