@@ -22,7 +22,7 @@ use crate::plan::{Plan, Victims};
 use crate::room::{Rooms, is_within, rooms_at};
 use crate::shelf::{Shelf, groups_of, shelves_of};
 use crate::victims::Scratch;
-use crate::walk::holders_by_priority;
+use crate::walk::{by_priority, holders_of};
 use fuxi_terms::OutOfMemory;
 use grant_table::{Asking, GrantTable, Pick, Steps};
 use schedule_unit::MachineNo;
@@ -183,11 +183,12 @@ pub fn find<P: Asking, L: Ledger>(
         return Ok(None);
     }
     let groups = groups_of(alloc, table)?;
-    let holders = holders_by_priority(alloc, table)?;
+    let units = holders_of(alloc, table)?;
     let waiting = waiting_of(alloc, table, placer)?;
-    if !may_any_take(table, &groups, &holders, &waiting) {
+    if !may_any_take(table, &groups, &units, &waiting) {
         return Ok(None);
     }
+    let holders = by_priority(alloc, &units)?;
     let mut scratch = Scratch {
         set: Vec::new(alloc),
         parts: Parts::new(),

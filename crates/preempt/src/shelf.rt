@@ -53,8 +53,8 @@ fn is_loose(loose: Loose, group: usize) -> bool
     }
 }
 
-// Whether another group than this one is loose.
-fn is_other_loose(loose: Loose, group: usize) -> bool
+/// Whether another group than this one is loose.
+pub(crate) fn is_other_loose(loose: Loose, group: usize) -> bool
     ensures { result ≡ is_other_loose loose group }
 {
     match loose {
