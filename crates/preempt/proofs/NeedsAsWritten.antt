@@ -1,9 +1,8 @@
 -- What a unit that waits needs is what the definitions say.
 use Rattle.std.proofs.Common.{◌≡◌, ℕ, zero, suc, ◌+◌, ◌<◌, ◌≤◌, Bool, true, false, cond, not, nat_eq, nat_lt, List, [], ◌∷◌, length, get_or, drop, Some, sym, ◌∙◌, ap, arith}
-use Rattle.std.specs.Prelude.{◌&&◌, ◌||◌, IfOk, Result, Ok, Err, slice_get, slice_index, Option}
-use Rattle.std.specs.Option.{unwrap_or, option_map}
+use Rattle.std.specs.Prelude.{◌&&◌, ◌||◌, IfOk, Result, Ok, Err, slice_get, slice_index}
 use Rattle.fuxi_terms.specs.Cluster.{JobRecord, is_narrow, quota_at, in_each}
-use Rattle.fuxi_terms.specs.Jobs.{KnownJob, job_of, unit_count, size_at, group_of}
+use Rattle.fuxi_terms.specs.Jobs.{job_of, unit_count, size_at, group_of}
 use Rattle.fuxi_terms.specs.Lists.{below_each}
 use Rattle.fuxi_terms.specs.Tables.{spot, usage_at}
 use Rattle.written_roles.specs.Preemption.{is_guaranteed_in}

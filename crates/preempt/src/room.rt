@@ -23,7 +23,7 @@ pub(crate) struct Rooms {
     pub(crate) guaranteed: bool,
     /// By machine.
     pub(crate) each: Vec<Sums>,
-    /// Place by place the greatest of them.
+    /// In each resource the greatest of them.
     pub(crate) widest: [u128; 8],
 }
 
@@ -40,15 +40,14 @@ pub(crate) fn is_within(resources: usize, size: &[u64; 8], room: &[u128; 8]) -> 
     all
 }
 
-// Place by place the greater.
-fn greater_of(a: &[u128; 8], b: &[u128; 8]) -> [u128; 8]
-    ensures { (i : ℕ) → i < 8 → slice_index result i ≡ max (slice_index a.now i) (slice_index b.now i) }
+// In each of so many resources at least so wide as a room.
+fn widen(resources: usize, widest: &mut [u128; 8], room: &[u128; 8])
+    requires { resources ≤ 8 }
+    ensures { (i : ℕ) → i < resources → slice_index widest.new i ≡ max (slice_index widest.old i) (slice_index room.now i) }
 {
-    let mut q = [0; 8];
-    for i in 0..8 {
-        q[i] = a[i].max(b[i]);
+    for i in 0..resources {
+        widest[i] = widest[i].max(room[i]);
     }
-    q
 }
 
 // What is left of what there is and of this sum, where so much is used.
@@ -123,7 +122,7 @@ fn rooms_of(
     let mut widest = [0; 8];
     for shelf in shelves {
         let room = room_on(shelf, need, groups);
-        widest = greater_of(&widest, &room.q);
+        widen(need.resources, &mut widest, &room.q);
         each.push(room)?;
     }
     Ok(Rooms {
