@@ -35,7 +35,7 @@ use Rattle.preempt.proofs.UnitSteps.{got}
 pub record AreLeft (groups : List GroupUse) (shelf : Shelf) (n : Need) (room : List ℕ) : Type 0 where
   pub lower : List ℕ
   pub all : List ℕ
-  pub lower_are : (i : ℕ) → i < 8 → slice_index lower i ≡ lower_in n i shelf.entries.items
+  pub lower_are : (i : ℕ) → i < 8 → slice_index lower i ≡ lower_in n i shelf.entries.now
   pub all_are : (i : ℕ) → i < 8 → slice_index all i ≡ slice_index lower i + spared_in n i shelf.spared.items
   pub room_are : (i : ℕ) → i < n.resources → slice_index room i ≡ min ((slice_index shelf.has i + slice_index all i) - slice_index shelf.used i)
       ((slice_index (get_or groups n.group no_group).limit i + slice_index lower i) - slice_index (get_or groups n.group no_group).used i)
@@ -57,7 +57,7 @@ beyond_none t groups m shelf n room a u i are is left small group priority guara
     fits = (slice_index shelf.has i + slice_index left.all i) - slice_index shelf.used i
 
     entries : Table
-    entries = map (written m) shelf.entries.items
+    entries = map (written m) shelf.entries.now
 
     all : List Spot
     all = singles (counted_most entries (board_of t) t.entries s [])
@@ -69,7 +69,7 @@ beyond_none t groups m shelf n room a u i are is left small group priority guara
     sums = most_sums (board_of t) t.entries s i entries [] [] (record { same = λ _ g i _. refl })
 
     lower : slice_index left.lower i ≡ sum_by (lower_weight (board_of t) t.entries s i) entries
-    lower = left.lower_are i few ∙ lower_is t m a u n i group priority shelf.entries.items is.each
+    lower = left.lower_are i few ∙ lower_is t m a u n i group priority shelf.entries.now is.each
 
     spared : spared_in n i shelf.spared.items ≡ sum_by (spared_weight (board_of t) t.entries s i) (all_spared entries (board_of t) t.entries [])
     spared = spared_is t m a u n i group guaranteed shelf.spared.items is.spared.each ∙ ap (λ es. sum_by (spared_weight (board_of t) t.entries s i) es) is.spared.counted

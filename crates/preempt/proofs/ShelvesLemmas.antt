@@ -174,7 +174,7 @@ module _ (t : TableRecord) (groups : List GroupUse) (are : AreGroups t groups) (
   pub none_to_take : (s : Spot) (n : Need) (shelf : Shelf) → IsShelf t groups s.machine shelf → IsLike t s n → may_take_some n shelf.lowest shelf.loose ≡ false → victims_in (board_of t) t.entries s ≡ None
   none_to_take s n shelf is w none = closed_none (board_of t) t.entries s
       (subst (λ xs. AllByRecursion (λ x. may_take_in (board_of t) t.entries s [] x ≡ false) (singles xs)) is.walk
-      (closed_singles (λ x. may_take_in (board_of t) t.entries s [] x ≡ false) s.machine shelf.entries.items (closed_all s n shelf.lowest shelf.loose shelf.entries.items w none is.each is.low is.loose_are)))
+      (closed_singles (λ x. may_take_in (board_of t) t.entries s [] x ≡ false) s.machine shelf.entries.now (closed_all s n shelf.lowest shelf.loose shelf.entries.now w none is.each is.low is.loose_are)))
 
   -- the same for all machines, by the units that have grants
   pub none_anywhere : (a u : ℕ) (n : Need) (lowest : List ℕ) (loose : Loose) (holders : List Entry) → AreHolders t holders → AllByRecursion (IsLow lowest) holders → AllByRecursion (IsLoose t.cluster.resources groups loose) holders

@@ -1,14 +1,14 @@
 //! The admitted units in the order in which grants are walked: lower priority, then greater job, then greater
 //! unit. That order is the same on each machine.
 
-ghost use Rattle.std.specs.Prelude.{◌≡◌, ℕ, ◌+◌, ◌<◌, ◌≤◌, List, [], ◌∷◌, ◌++◌, Some, IfOk, OnOk, length, map, filter, slice_get, nat_eq};
+ghost use Rattle.std.specs.Prelude.{◌≡◌, ℕ, ◌+◌, ◌<◌, ◌≤◌, List, [], ◌∷◌, ◌++◌, Some, IfOk, OnOk, length, drop, map, filter, slice_get, nat_eq};
 ghost use Rattle.std.specs.List.{All, AllByRecursion};
 ghost use Rattle.fuxi_terms.specs.Cluster.{JobRecord};
 ghost use Rattle.fuxi_terms.specs.Jobs.{unit_count, unit_of, group_of, priority_of};
 ghost use Rattle.fuxi_terms.specs.Lists.{below};
 ghost use Rattle.grant_table.specs.GrantTables.{TableRecord, IsSound, as_known};
 ghost use Rattle.preempt.specs.Given.{IsEntry, pair_of};
-ghost use Rattle.preempt.specs.Shelves.{AreHolders, AreListed};
+ghost use Rattle.preempt.specs.Shelves.{AreHolders, AreRead, AreWalked, IsListed};
 ghost use Rattle.preempt.specs.declared.entry.Entry.{Entry};
 ghost use Rattle.preempt.specs.Walks.{holds_some, units_in, all_units, backward, of_priority, entries_by_priority};
 
@@ -90,47 +90,69 @@ pub(crate) fn by_priority(alloc: Global, units: &[Entry]) -> Result<Vec<Entry>, 
     Ok(sorted)
 }
 
-// An empty list for each of so many machines.
-fn empty_lists(alloc: Global, machines: u32) -> Result<Vec<Vec<Entry>>, OutOfMemory>
-    ensures long { IfOk result (λ lists. length lists.items ≡ machines) }
-    ensures empty { IfOk result (λ lists. All (λ list. list.items ≡ []) lists.items) }
-{
-    let mut lists = Vec::with_capacity(alloc, machines as usize)?;
-    for machine in 0..machines {
-        lists.push(Vec::new(alloc))?;
-    }
-    Ok(lists)
+/// The entries of all machines, in the order of the walk, one machine behind another.
+#[derive(Drop)]
+pub(crate) struct Listing {
+    pub(crate) entries: Vec<Entry>,
+    /// Where the entries of each machine begin, and at last where those of the last end.
+    pub(crate) starts: Vec<usize>,
 }
 
-// With one unit behind those that are listed, on each machine where it has grants. Its counts are read once.
-fn list_unit(lists: &mut Vec<Vec<Entry>>, table: &GrantTable, e: &Entry) -> Result<(), OutOfMemory>
-    requires entry { IsEntry table.now e.now }
-    requires long { length lists.old.items ≡ length table.now.cluster.machines }
-    ensures { OnOk result ((units : List Entry) → AreListed table.now units lists.old.items → AreListed table.now (units ++ e.now ∷ []) lists.new.items) }
+// What each unit has by machine. Each is looked up once.
+fn counts_of<'a>(
+    alloc: Global,
+    table: &'a GrantTable,
+    units: &[Entry],
+) -> Result<Vec<&'a [u32]>, OutOfMemory>
+    requires { AllByRecursion (IsEntry table.now) units.now }
+    ensures { IfOk result (λ counts. AreRead table.now units.now counts.items) }
 {
-    let counts = table.counts(e.app, e.unit);
-    for machine in 0..counts.len() {
-        let count = counts[machine];
+    let mut counts = Vec::with_capacity(alloc, units.len())?;
+    for e in units {
+        counts.push(table.counts(e.app, e.unit))?;
+    }
+    Ok(counts)
+}
+
+// With those of a machine behind what is listed.
+fn list_machine(
+    entries: &mut Vec<Entry>,
+    units: &[Entry],
+    counts: &[&[u32]],
+    machine: u32,
+) -> Result<(), OutOfMemory>
+    requires long { length counts.now ≡ length units.now }
+    requires wide { All (λ row. machine < length row.now) counts.now }
+    ensures kept { OnOk result (entries.new.items ≡ entries.old.items ++ drop (length entries.old.items) entries.new.items) }
+    ensures listed { OnOk result ((t : TableRecord) → AllByRecursion (IsEntry t) units.now → AreRead t units.now counts.now → IsListed t units.now machine (drop (length entries.old.items) entries.new.items)) }
+{
+    for at in 0..units.len() {
+        let count = counts[at][machine as usize];
         if count == 0 {
             continue;
         }
-        lists[machine].push(recounted(e, count))?;
+        entries.push(recounted(&units[at], count))?;
     }
     Ok(())
 }
 
-/// By machine the units that have grants there, with their number there, in their order.
-pub(crate) fn lists_of(
+/// The entries of all machines, of units that have grants, which stand in the order of the walk.
+pub(crate) fn listing_of(
     alloc: Global,
     table: &GrantTable,
-    units: &[Entry],
-) -> Result<Vec<Vec<Entry>>, OutOfMemory>
-    requires { AllByRecursion (IsEntry table.now) units.now }
-    ensures { IfOk result (λ lists. AreListed table.now units.now lists.items) }
+    holders: &[Entry],
+) -> Result<Listing, OutOfMemory>
+    requires { AreHolders table.now holders.now }
+    ensures { IfOk result (AreWalked table.now) }
 {
-    let mut lists = empty_lists(alloc, table.cluster().machines())?;
-    for e in units {
-        list_unit(&mut lists, table, e)?;
+    let machines = table.cluster().machines();
+    let counts = counts_of(alloc, table, holders)?;
+    let mut entries = Vec::new(alloc);
+    let mut starts = Vec::with_capacity(alloc, machines as usize + 1)?;
+    starts.push(0)?;
+    for machine in 0..machines {
+        list_machine(&mut entries, holders, &counts, machine)?;
+        starts.push(entries.len())?;
     }
-    Ok(lists)
+    Ok(Listing { entries, starts })
 }

@@ -29,7 +29,7 @@ victims_for-requires-clause-few g c = (c.requires.shelves.each c.loop-number.num
     (let same = ap (λ (x : ClusterRecord). length x.machines) c.cluster-cluster.ensures.cluster in let a = c.loop-number-test.true in let b = c.machines-number-end.ensures.number in let l = c.requires.shelves.long in omega (arith, a, b, same, l)) c.index-shelves-number.is)).few
 
 pub victims_for-requires-clause-small : goal.victims_for-requires-clause-small
-victims_for-requires-clause-small g c = λ k d lt. (at_index _ c.index-shelves-number.result.entries.items k d lt (c.requires.shelves.each c.loop-number.number c.index-shelves-number.result (shelf_at c.args.shelves.now c.loop-number.number c.index-shelves-number.result
+victims_for-requires-clause-small g c = λ k d lt. (at_index _ c.index-shelves-number.result.entries.now k d lt (c.requires.shelves.each c.loop-number.number c.index-shelves-number.result (shelf_at c.args.shelves.now c.loop-number.number c.index-shelves-number.result
     (let same = ap (λ (x : ClusterRecord). length x.machines) c.cluster-cluster.ensures.cluster in let a = c.loop-number-test.true in let b = c.machines-number-end.ensures.number in let l = c.requires.shelves.long in omega (arith, a, b, same, l)) c.index-shelves-number.is)).each).small
 
 pub returns-in-Some : goal.returns-in-Some
