@@ -53,7 +53,7 @@ impl Model for GrantTable {
 }
 
 impl GrantTable {
-    ghost use Rattle.std.specs.Prelude.{◌≡◌, ℕ, ◌+◌, ◌-◌, ◌*◌, ◌<◌, ◌≤◌, List, [], length, slice_get, Some, IfOk, OnOk, OnErr, false, nat_lt};
+    ghost use Rattle.std.specs.Prelude.{◌≡◌, ℕ, ◌+◌, ◌-◌, ◌*◌, ◌<◌, ◌≤◌, List, [], length, get_or, slice_get, Some, IfOk, OnOk, OnErr, false, nat_lt};
     ghost use Rattle.fuxi_terms.specs.Vectors.{at_place};
     ghost use Rattle.fuxi_terms.specs.Jobs.{is_known, unit_count, unit_of, most_of, size_at};
     ghost use Rattle.fuxi_terms.specs.Cluster.{has_at};
@@ -194,6 +194,15 @@ impl GrantTable {
     {
         let holding = holding_at(&self.slots, app.0 as usize, unit.0 as usize);
         holding.counts[machine.0 as usize]
+    }
+
+    /// How many grants the unit has on each machine, by its number.
+    pub fn counts(&self, app: AppNo, unit: UnitNo) -> &[u32]
+        requires { unit.0 < unit_count (as_known self.now.jobs) app.0 }
+        ensures long { length result.now ≡ length self.now.cluster.machines }
+        ensures is { (m : ℕ) → get_or result.now m 0 ≡ held_on self.now.entries app.0 unit.0 m }
+    {
+        &holding_at(&self.slots, app.0 as usize, unit.0 as usize).counts
     }
 
     /// How many grants the unit has on the machines of the rack, which need not be there.

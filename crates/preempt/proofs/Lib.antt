@@ -20,3 +20,4 @@ pub mod SearchLemmas
 pub mod Promised
 pub mod VictimsTaken
 pub mod Served
+pub mod ListedLemmas

@@ -35,7 +35,7 @@ use Rattle.preempt.proofs.UnitSteps.{got}
 pub record AreLeft (groups : List GroupUse) (shelf : Shelf) (n : Need) (room : List ℕ) : Type 0 where
   pub lower : List ℕ
   pub all : List ℕ
-  pub lower_are : (i : ℕ) → i < 8 → slice_index lower i ≡ lower_in n i shelf.entries.items
+  pub lower_are : (i : ℕ) → i < 8 → slice_index lower i ≡ lower_in n i shelf.entries.now
   pub all_are : (i : ℕ) → i < 8 → slice_index all i ≡ slice_index lower i + spared_in n i shelf.spared.items
   pub room_are : (i : ℕ) → i < n.resources → slice_index room i ≡ min ((slice_index shelf.has i + slice_index all i) - slice_index shelf.used i)
       ((slice_index (get_or groups n.group no_group).limit i + slice_index lower i) - slice_index (get_or groups n.group no_group).used i)
@@ -57,7 +57,7 @@ beyond_none t groups m shelf n room a u i are is left small group priority guara
     fits = (slice_index shelf.has i + slice_index left.all i) - slice_index shelf.used i
 
     entries : Table
-    entries = map (written m) shelf.entries.items
+    entries = map (written m) shelf.entries.now
 
     all : List Spot
     all = singles (counted_most entries (board_of t) t.entries s [])
@@ -69,7 +69,7 @@ beyond_none t groups m shelf n room a u i are is left small group priority guara
     sums = most_sums (board_of t) t.entries s i entries [] [] (record { same = λ _ g i _. refl })
 
     lower : slice_index left.lower i ≡ sum_by (lower_weight (board_of t) t.entries s i) entries
-    lower = left.lower_are i few ∙ lower_is t m a u n i group priority shelf.entries.items is.each
+    lower = left.lower_are i few ∙ lower_is t m a u n i group priority shelf.entries.now is.each
 
     spared : spared_in n i shelf.spared.items ≡ sum_by (spared_weight (board_of t) t.entries s i) (all_spared entries (board_of t) t.entries [])
     spared = spared_is t m a u n i group guaranteed shelf.spared.items is.spared.each ∙ ap (λ es. sum_by (spared_weight (board_of t) t.entries s i) es) is.spared.counted
@@ -116,9 +116,9 @@ some_fails (suc n) test e = by (below_each n test) refl (test n) refl (some_fail
 
 module _ (t : TableRecord) (e : Entry) (h : IsEntry t e) (n : Need) (wanted : IsWanted t e.app.0 e.unit.0 n) where
   -- where some number of a room, or of one that it is narrower than, is below the size
-  beyond_room : (m : ℕ) (room wide : List ℕ) → IsRoom t n.group n.priority n.guaranteed m room → IsNarrower wide room → t.cluster.resources ≤ 8 → below_each n.resources (within_at e.size wide) ≡ false
+  beyond_room : (m : ℕ) (room wide : List ℕ) → IsRoom t n.group n.priority n.guaranteed m room → IsNarrower t.cluster.resources wide room → below_each n.resources (within_at e.size wide) ≡ false
       → victims_in (board_of t) t.entries (spot e.app.0 e.unit.0 m) ≡ None
-  beyond_room m room wide is narrower few f =
+  beyond_room m room wide is narrower f =
       let fails = some_fails n.resources (within_at e.size wide) f in
       let i = fails.place in
       let inside = fails.inside in
@@ -126,24 +126,24 @@ module _ (t : TableRecord) (e : Entry) (h : IsEntry t e) (n : Need) (wanted : Is
       let lt : i < t.cluster.resources = omega (arith, inside, resources) in
       let test : nat_lt (slice_index wide i) (slice_index e.size i) ≡ true = not_false (nat_lt (slice_index wide i) (slice_index e.size i)) fails.is in
       let less : slice_index wide i < slice_index e.size i = grind (arith, nat_tests, test) in
-      let le = narrower.each i (omega (arith, lt, few)) in
+      let le = narrower.each i lt in
       let size = size_is t e h i in
       is.beyond e.app.0 e.unit.0 i wanted.group wanted.priority wanted.guaranteed lt (omega (arith, less, le, size))
 
-  pub machine_beyond : (rooms : List Sums) (m : ℕ) → AreRoomsFor t n rooms → m < length t.cluster.machines → t.cluster.resources ≤ 8 → below_each n.resources (within_at e.size (get_or rooms m no_sums).q) ≡ false
+  pub machine_beyond : (rooms : List Sums) (m : ℕ) → AreRoomsFor t n rooms → m < length t.cluster.machines → below_each n.resources (within_at e.size (get_or rooms m no_sums).q) ≡ false
       → victims_in (board_of t) t.entries (spot e.app.0 e.unit.0 m) ≡ None
-  machine_beyond rooms m are lt few f =
+  machine_beyond rooms m are lt f =
       let long = are.long in
       let x = get_or rooms m no_sums in
-      beyond_room m x.q x.q (are.each m x (got (λ _. true) rooms m no_sums (omega (arith, lt, long)))) (record { each = λ i _. omega arith }) few f
+      beyond_room m x.q x.q (are.each m x (got (λ _. true) rooms m no_sums (omega (arith, lt, long)))) (record { each = λ i _. omega arith }) f
 
-  pub all_beyond : (rooms : Rooms) → AreRooms t rooms → AreRoomsFor t n rooms.each.items → t.cluster.resources ≤ 8 → below_each n.resources (within_at e.size rooms.widest) ≡ false
+  pub all_beyond : (rooms : Rooms) → AreRooms t rooms → AreRoomsFor t n rooms.each.items → below_each n.resources (within_at e.size rooms.widest) ≡ false
       → (m : ℕ) → m < length t.cluster.machines → victims_in (board_of t) t.entries (spot e.app.0 e.unit.0 m) ≡ None
-  all_beyond rooms are by_machine few f m lt =
+  all_beyond rooms are by_machine f m lt =
       let long = are.long in
       let x = get_or rooms.each.items m no_sums in
       let there = got (λ _. true) rooms.each.items m no_sums (omega (arith, lt, long)) in
-      beyond_room m x.q rooms.widest (by_machine.each m x there) (are.narrower m x there) few f
+      beyond_room m x.q rooms.widest (by_machine.each m x there) (are.narrower m x there) f
 
 -- ---- the rooms of a kind
 pub rooms_for : (t : TableRecord) (n : Need) (r : Rooms) → AreRooms t r → IsFor n r → AreRoomsFor t n r.each.items
@@ -187,8 +187,8 @@ each_more P [] x h k (suc m) y e = cc
 each_more P (z ∷ zs) x h k zero y e = h zero y e
 each_more P (z ∷ zs) x h k (suc m) y e = each_more (λ n. P (suc n)) zs x (λ n w q. h (suc n) w q) k m y e
 
-pub narrower_more : (old new room : List ℕ) → ((i : ℕ) → i < 8 → slice_index new i ≡ max (slice_index old i) (slice_index room i)) → IsNarrower new room × ((x : List ℕ) → IsNarrower old x → IsNarrower new x)
-narrower_more old new room is = (
+pub narrower_more : (n : ℕ) (old new room : List ℕ) → ((i : ℕ) → i < n → slice_index new i ≡ max (slice_index old i) (slice_index room i)) → IsNarrower n new room × ((x : List ℕ) → IsNarrower n old x → IsNarrower n new x)
+narrower_more n old new room is = (
   record { each = λ i lt. let e = is i lt in omega (arith, e) },
   λ x h. record { each = λ i lt. let e = is i lt in let l = h.each i lt in omega (arith, e, l) },
 )

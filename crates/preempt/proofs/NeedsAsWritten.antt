@@ -1,9 +1,8 @@
 -- What a unit that waits needs is what the definitions say.
 use Rattle.std.proofs.Common.{◌≡◌, ℕ, zero, suc, ◌+◌, ◌<◌, ◌≤◌, Bool, true, false, cond, not, nat_eq, nat_lt, List, [], ◌∷◌, length, get_or, drop, Some, sym, ◌∙◌, ap, arith}
-use Rattle.std.specs.Prelude.{◌&&◌, ◌||◌, IfOk, Result, Ok, Err, slice_get, slice_index, Option}
-use Rattle.std.specs.Option.{unwrap_or, option_map}
+use Rattle.std.specs.Prelude.{◌&&◌, ◌||◌, IfOk, Result, Ok, Err, slice_get, slice_index}
 use Rattle.fuxi_terms.specs.Cluster.{JobRecord, is_narrow, quota_at, in_each}
-use Rattle.fuxi_terms.specs.Jobs.{KnownJob, job_of, unit_count, size_at, group_of}
+use Rattle.fuxi_terms.specs.Jobs.{job_of, unit_count, size_at, group_of}
 use Rattle.fuxi_terms.specs.Lists.{below_each}
 use Rattle.fuxi_terms.specs.Tables.{spot, usage_at}
 use Rattle.written_roles.specs.Preemption.{is_guaranteed_in}
@@ -15,7 +14,7 @@ use Rattle.preempt.specs.declared.shelf.Shelf.{Shelf}
 use Rattle.preempt.specs.Given.{board_of, IsEntry, IsGroup, IsNeed}
 use Rattle.preempt.specs.GrantNumbers.{narrow_at, reach_in}
 use Rattle.preempt.specs.Shelves.{IsWanted, IsShelf}
-use Rattle.preempt.proofs.Admitted.{job_found}
+use Rattle.preempt.proofs.UnitSteps.{units_counted}
 use Rattle.preempt.proofs.CountedAsWritten.{each_same, size_is}
 
 pub drop_job : (js : List JobRecord) (i : ℕ) (j : JobRecord) (a : ℕ) → slice_get js i ≡ Some j → nat_eq j.number a ≡ false → job_of (as_known (drop i js)) a ≡ job_of (as_known (drop (i + 1) js)) a
@@ -24,10 +23,7 @@ drop_job (k ∷ ks) zero j a e f = let same : k ≡ j = cc in ap (λ b. cond b (
 drop_job (k ∷ ks) (suc i) j a e f = let n : suc (i + 1) ≡ suc i + 1 = omega arith in drop_job ks i j a e f ∙ ap (λ m. job_of (as_known (drop m (k ∷ ks))) a) n
 
 pub unit_there : (t : TableRecord) → IsSound t → (i : ℕ) (j : JobRecord) → slice_get t.jobs i ≡ Some j → (a u : ℕ) → j.number ≡ a → u < unit_count (as_known t.jobs) a → u < length j.units
-unit_there t s i j at a u is lt =
-    let f = job_found t.jobs s.in_order i j at in
-    let e : unit_count (as_known t.jobs) a ≡ length j.units = ap (unit_count (as_known t.jobs)) (sym is) ∙ ap (λ (o : Option KnownJob). length (unwrap_or (option_map (λ (k : KnownJob). k.job.units) o) [])) f in
-    omega (arith, e, lt)
+unit_there t s i j at a u is lt = let e : unit_count (as_known t.jobs) a ≡ length j.units = ap (unit_count (as_known t.jobs)) (sym is) ∙ units_counted t s i j at in omega (arith, e, lt)
 
 module _ (t : TableRecord) (e : Entry) (h : IsEntry t e) where
   a : ℕ

@@ -1,6 +1,6 @@
 -- What is kept of a machine is what the table says of it, and its bounds tell when nothing may be taken.
 use Rattle.std.proofs.Common.{◌≡◌, ◌≢◌, ℕ, zero, suc, ◌+◌, ◌<◌, ◌≤◌, Bool, true, false, cond, not, nat_eq, nat_lt, List, [], ◌∷◌, ◌++◌, length, map, get_or, set, take, min, Some, None, refl, sym, ◌∙◌, ap, subst, arith, get_or-set_same, get_or-set_other}
-use Rattle.std.specs.Prelude.{◌&&◌, IsTrue, slice_get, slice_index, Option}
+use Rattle.std.specs.Prelude.{◌&&◌, ◌||◌, IsTrue, slice_get, slice_index, Option}
 use Rattle.std.specs.Option.{unwrap_or, option_map}
 use Rattle.std.specs.List.{AllByRecursion, flat_map}
 use Rattle.std.proofs.lemmas.Bool.Decides.{nat_tests}
@@ -174,15 +174,31 @@ module _ (t : TableRecord) (groups : List GroupUse) (are : AreGroups t groups) (
   pub none_to_take : (s : Spot) (n : Need) (shelf : Shelf) → IsShelf t groups s.machine shelf → IsLike t s n → may_take_some n shelf.lowest shelf.loose ≡ false → victims_in (board_of t) t.entries s ≡ None
   none_to_take s n shelf is w none = closed_none (board_of t) t.entries s
       (subst (λ xs. AllByRecursion (λ x. may_take_in (board_of t) t.entries s [] x ≡ false) (singles xs)) is.walk
-      (closed_singles (λ x. may_take_in (board_of t) t.entries s [] x ≡ false) s.machine shelf.entries.items (closed_all s n shelf.lowest shelf.loose shelf.entries.items w none is.each is.low is.loose_are)))
+      (closed_singles (λ x. may_take_in (board_of t) t.entries s [] x ≡ false) s.machine shelf.entries.now (closed_all s n shelf.lowest shelf.loose shelf.entries.now w none is.each is.low is.loose_are)))
 
   -- the same for all machines, by the units that have grants
   pub none_anywhere : (a u : ℕ) (n : Need) (lowest : List ℕ) (loose : Loose) (holders : List Entry) → AreHolders t holders → AllByRecursion (IsLow lowest) holders → AllByRecursion (IsLoose t.cluster.resources groups loose) holders
-      → IsWanted t a u n → may_take_some n lowest loose ≡ false → HasNoVictims t (a, u)
-  none_anywhere a u n lowest loose holders are low ls w none = record {
+      → ((m : ℕ) → IsLike t (spot a u m) n) → may_take_some n lowest loose ≡ false → HasNoVictims t (a, u)
+  none_anywhere a u n lowest loose holders are low ls like none = record {
     none = λ m.
         let s = spot a u m in
         closed_none (board_of t) t.entries s
         (subst (λ xs. AllByRecursion (λ x. may_take_in (board_of t) t.entries s [] x ≡ false) (singles xs)) (are.lists m)
-        (closed_listed (λ x. may_take_in (board_of t) t.entries s [] x ≡ false) t.entries m holders (closed_all s n lowest loose holders (wanted_like t a u m n w) none are.each low ls)));
+        (closed_listed (λ x. may_take_in (board_of t) t.entries s [] x ≡ false) t.entries m holders (closed_all s n lowest loose holders (like m) none are.each low ls)));
   }
+
+-- what tells what may be taken for a unit
+pub kind_of : (t : TableRecord) → Entry → Need
+kind_of t e = record { resources = 0; group = e.group; priority = e.priority; guaranteed = is_guaranteed_in (board_of t) t.entries (spot e.app.0 e.unit.0 0); has = []; fits = []; limit = []; allowed = [] }
+
+pub kind_like : (t : TableRecord) (e : Entry) → IsEntry t e → (m : ℕ) → IsLike t (spot e.app.0 e.unit.0 m) (kind_of t e)
+unfolding kind_of
+kind_like t e h m = record { group = h.group; priority = h.priority; guaranteed = refl }
+
+-- none, where no grant of its group is below it and no other group spares any, or its own has no quota left
+pub kind_none : (t : TableRecord) (e : Entry) (lowest : List ℕ) (loose : Loose) → e.priority ≤ get_or lowest e.group 0 → (is_guaranteed_in (board_of t) t.entries (spot e.app.0 e.unit.0 0) && is_other_loose loose e.group) ≡ false
+    → may_take_some (kind_of t e) lowest loose ≡ false
+unfolding kind_of
+kind_none t e lowest loose le none =
+    let f : nat_lt (get_or lowest e.group 0) e.priority ≡ false = grind (arith, nat_tests, le) in
+    (λ i. f i || none i)

@@ -1,5 +1,5 @@
 -- One step of each loop that lists units.
-use Rattle.std.proofs.Common.{subst, ◌≡◌, ℕ, zero, suc, ◌+◌, ◌-◌, ◌<◌, ◌≤◌, Bool, true, false, cond, nat_eq, nat_lt, List, [], ◌∷◌, ◌++◌, length, map, filter, get_or, take, Some, refl, sym, ◌∙◌, ap, arith, append_assoc}
+use Rattle.std.proofs.Common.{◌≡◌, ℕ, zero, suc, ◌+◌, ◌-◌, ◌<◌, ◌≤◌, Bool, true, false, cond, nat_eq, nat_lt, List, [], ◌∷◌, ◌++◌, length, map, filter, get_or, take, Some, refl, sym, ◌∙◌, ap, arith, append_assoc}
 use Rattle.std.specs.Prelude.{◌&&◌, slice_get, Option}
 use Rattle.std.specs.Option.{unwrap_or, option_map}
 use Rattle.std.specs.List.{AllByRecursion, flat_map}
@@ -15,7 +15,7 @@ use Rattle.fuxi_terms.specs.Jobs.{KnownJob, unit_count, unit_of, priority_of, gr
 use Rattle.fuxi_terms.specs.Keys.{Spot, spot_cmp, Pair}
 use Rattle.fuxi_terms.specs.Lists.{below}
 use Rattle.fuxi_terms.specs.Tables.{spot, held, held_on, Table}
-use Rattle.fuxi_terms.proofs.Alls.{all_append, all_filter}
+use Rattle.fuxi_terms.proofs.Alls.{all_append}
 use Rattle.fuxi_terms.proofs.Booleans.{nat_itself}
 use Rattle.fuxi_terms.proofs.CountsLemmas.{tied}
 use Rattle.fuxi_terms.proofs.KeyOrders.{same_spot}
@@ -28,13 +28,17 @@ use Rattle.preempt.proofs.Admitted.{job_found, valid_at, few_units, ordered_leng
 use Rattle.fuxi_terms.proofs.ValidJobs.{group_valid}
 use Rattle.fuxi_terms.proofs.Lists.{take_last}
 
+-- the job at a place has its units
+pub units_counted : (t : TableRecord) → IsSound t → (i : ℕ) (j : JobRecord) → slice_get t.jobs i ≡ Some j → unit_count (as_known t.jobs) j.number ≡ length j.units
+units_counted t s i j at = ap (λ (o : Option KnownJob). length (unwrap_or (option_map (λ (k : KnownJob). k.job.units) o) [])) (job_found t.jobs s.in_order i j at)
+
 -- a unit of the job at a place is an entry
 pub entry_found : (t : TableRecord) → IsSound t → (i : ℕ) (j : JobRecord) → slice_get t.jobs i ≡ Some j → (u : ℕ) (x : UnitRecord) → slice_get j.units u ≡ Some x → u < length j.units
     → (e : Entry) → e.app.0 ≡ j.number → e.unit.0 ≡ u → e.group ≡ j.group → e.priority ≡ x.priority → e.size ≡ x.size → IsEntry t e
 entry_found t s i j at u x is lt e app unit group priority size =
     let f = job_found t.jobs s.in_order i j at in
     let g = group_valid j (valid_at t.jobs s.in_order i j at) in
-    let count : unit_count (as_known t.jobs) e.app.0 ≡ length j.units = ap (unit_count (as_known t.jobs)) app ∙ ap (λ (o : Option KnownJob). length (unwrap_or (option_map (λ (k : KnownJob). k.job.units) o) [])) f in
+    let count : unit_count (as_known t.jobs) e.app.0 ≡ length j.units = ap (unit_count (as_known t.jobs)) app ∙ units_counted t s i j at in
     let found : unit_of (as_known t.jobs) e.app.0 e.unit.0 ≡ x =
     (λ k. unit_of (as_known t.jobs) (app k) (unit k))
     ∙ ap (λ (o : Option KnownJob). unwrap_or (slice_get (unwrap_or (option_map (λ (k : KnownJob). k.job.units) o) []) u) no_unit) f
@@ -47,7 +51,7 @@ entry_found t s i j at u x is lt e app unit group priority size =
       size = size ∙ ap (λ (y : UnitRecord). y.size) (sym found);
     }
 
-pub units_more : (js : List JobRecord) (i : ℕ) (j : JobRecord) → slice_get js i ≡ Some j → all_units (take (i + 1) js) ≡ all_units (take i js) ++ units_in j (length j.units)
+units_more : (js : List JobRecord) (i : ℕ) (j : JobRecord) → slice_get js i ≡ Some j → all_units (take (i + 1) js) ≡ all_units (take i js) ++ units_in j (length j.units)
 units_more js i j e = ap all_units (take_last js i j e) ∙ flat_map-append (λ (j : JobRecord). units_in j (length j.units)) (take i js) (j ∷ []) ∙ ap (λ xs. all_units (take i js) ++ xs) (append-nil (units_in j (length j.units)))
 
 -- from the last to the first
@@ -95,20 +99,12 @@ pairs_ordered t es h n = over (below n)
     over [] = refl
     over (k ∷ ks) = let a = pairs_backward t k es h in let r = over ks in map-append pair_of (backward (of_priority k) es) (flat_map (λ p. backward (of_priority p) es) ks) ∙ (λ i. a i ++ r i)
 
-all_ordered : (P : Entry → Type 0) (es : List Entry) → AllByRecursion P es → (n : ℕ) → AllByRecursion P (entries_by_priority es n)
+pub all_ordered : (P : Entry → Type 0) (es : List Entry) → AllByRecursion P es → (n : ℕ) → AllByRecursion P (entries_by_priority es n)
 all_ordered P es h n = over (below n)
   where
     over : (ks : List ℕ) → AllByRecursion P (flat_map (λ p. backward (of_priority p) es) ks)
     over [] = tt
     over (k ∷ ks) = all_append P (backward (of_priority k) es) (flat_map (λ p. backward (of_priority p) es) ks) (backward_all (of_priority k) P es h) (over ks)
-
-ordered_few : (t : TableRecord) → IsSound t → (es : List Entry) → map pair_of es ≡ pairs_by_priority (priority_of (as_known t.jobs)) (all_units t.jobs) 10 → length es ≤ 1000000
-ordered_few t s es is =
-    let a : length (map pair_of es) ≡ length es = length-map es pair_of in
-    let b = ap length is in
-    let l = ordered_length (priority_of (as_known t.jobs)) (all_units t.jobs) 10 in
-    let f = few_units t.jobs s.in_order in
-    omega (arith, a, b, l, f)
 
 -- ---- those that have grants
 -- a unit has on a machine no more than in all
@@ -137,75 +133,79 @@ held_least (x ∷ xs) a u m = by (eq_by_cmp spot_cmp s x.0) refl (held_least xs 
         let found : unwrap_or (cond (eq_by_cmp spot_cmp s x.0) (Some x.1) (find spot_cmp s xs)) 0 ≡ held_on xs a u m = ap (λ b. unwrap_or (cond b (Some x.1) (find spot_cmp s xs)) 0) e in
         omega (arith, more, found, le)
 
-nothing_on : (es : Table) (m : ℕ) (e : Entry) → holds_some es e ≡ false → entry_on es m (pair_of e) ≡ []
-nothing_on es m e f =
-    let n = held_on es e.app.0 e.unit.0 m in
-    let le = held_least es e.app.0 e.unit.0 m in
+nothing_on : (es : Table) (m : ℕ) (p : Pair) → holds_some es p ≡ false → entry_on es m p ≡ []
+nothing_on es m p f =
+    let n = held_on es p.0 p.1 m in
+    let le = held_least es p.0 p.1 m in
     let none : nat_lt 0 n ≡ false = grind (arith, nat_tests, f, le) in
-    ap (λ b. cond b ((spot e.app.0 e.unit.0 m, n) ∷ []) []) none
+    ap (λ b. cond b ((spot p.0 p.1 m, n) ∷ []) []) none
 
-holders_listed : (es : Table) (m : ℕ) (units : List Entry) → flat_map (entry_on es m) (map pair_of (filter (holds_some es) units)) ≡ flat_map (entry_on es m) (map pair_of units)
+holders_listed : (es : Table) (m : ℕ) (ps : List Pair) → flat_map (entry_on es m) (filter (holds_some es) ps) ≡ flat_map (entry_on es m) ps
 holders_listed es m [] = refl
-holders_listed es m (e ∷ units) =
-    let rest = holders_listed es m units in
-    elim (holds_some es e) as (λ b. holds_some es e ≡ b → flat_map (entry_on es m) (map pair_of (cond b (e ∷ filter (holds_some es) units) (filter (holds_some es) units))) ≡ entry_on es m (pair_of e) ++ flat_map (entry_on es m) (map pair_of units)) [
-      | true ↦ λ _. ap (λ xs. entry_on es m (pair_of e) ++ xs) rest
-      | false ↦ λ f. rest ∙ ap (λ xs. xs ++ flat_map (entry_on es m) (map pair_of units)) (sym (nothing_on es m e f))
+holders_listed es m (p ∷ ps) =
+    let rest = holders_listed es m ps in
+    elim (holds_some es p) as (λ b. holds_some es p ≡ b → flat_map (entry_on es m) (cond b (p ∷ filter (holds_some es) ps) (filter (holds_some es) ps)) ≡ entry_on es m p ++ flat_map (entry_on es m) ps) [
+      | true ↦ λ _. ap (λ xs. entry_on es m p ++ xs) rest
+      | false ↦ λ f. rest ∙ ap (λ xs. xs ++ flat_map (entry_on es m) ps) (sym (nothing_on es m p f))
     ] refl
 
-pub filter_more : (test : Entry → Bool) (xs : List Entry) (k : ℕ) (d : Entry) → k < length xs → filter test (take (k + 1) xs) ≡ filter test (take k xs) ++ cond (test (get_or xs k d)) (get_or xs k d ∷ []) []
-filter_more test xs k d lt = ap (filter test) (take_last xs k (get_or xs k d) (got test xs k d lt)) ∙ last (take k xs) (get_or xs k d)
-  where
-    last : (ys : List Entry) (x : Entry) → filter test (ys ++ x ∷ []) ≡ filter test ys ++ cond (test x) (x ∷ []) []
-    last [] x = refl
-    last (y ∷ ys) x = elim (test y) as (λ b. cond b (y ∷ filter test (ys ++ x ∷ [])) (filter test (ys ++ x ∷ [])) ≡ cond b (y ∷ filter test ys) (filter test ys) ++ cond (test x) (x ∷ []) []) [
-      | true ↦ ap (λ zs. y ∷ zs) (last ys x)
-      | false ↦ last ys x
-    ]
-
-filter_few : (test : Entry → Bool) (es : List Entry) → length (filter test es) ≤ length es
+filter_few : (test : Pair → Bool) (ps : List Pair) → length (filter test ps) ≤ length ps
 filter_few test [] = omega arith
-filter_few test (e ∷ es) = let r = filter_few test es in elim (test e) as (λ b. length (cond b (e ∷ filter test es) (filter test es)) ≤ length (e ∷ es)) [ true ↦ omega (arith, r) | false ↦ omega (arith, r) ]
+filter_few test (p ∷ ps) = let r = filter_few test ps in elim (test p) as (λ b. length (cond b (p ∷ filter test ps) (filter test ps)) ≤ length (p ∷ ps)) [ true ↦ omega (arith, r) | false ↦ omega (arith, r) ]
 
-holders_are : (t : TableRecord) → IsSound t → (units : List Entry) → map pair_of units ≡ pairs_by_priority (priority_of (as_known t.jobs)) (all_units t.jobs) 10 → AllByRecursion (IsEntry t) units → length units ≤ 1000000 → AreHolders t (filter (holds_some t.entries) units)
-holders_are t s units is each few = record {
-  each = all_filter (IsEntry t) (holds_some t.entries) units each;
-  few = let l = filter_few (holds_some t.entries) units in omega (arith, l, few);
-  lists = λ m. holders_listed t.entries m units ∙ ap (flat_map (entry_on t.entries m)) is ∙ sym (walk_is t s m);
-}
+-- one job more
+pub passed_units : (test : Pair → Bool) (js : List JobRecord) (i : ℕ) (j : JobRecord) → slice_get js i ≡ Some j → filter test (all_units (take (i + 1) js)) ≡ filter test (all_units (take i js)) ++ filter test (units_in j (length j.units))
+passed_units test js i j e = ap (filter test) (units_more js i j e) ∙ filter-append test (all_units (take i js)) (units_in j (length j.units))
 
 -- ---- the order of those that pass a test
-module _ (test : Entry → Bool) where
-  backward_passed : (of : Entry → Bool) (es : List Entry) → backward of (filter test es) ≡ filter test (backward of es)
+module _ (test : Pair → Bool) where
+  backward_passed : (of : Pair → Bool) (ps : List Pair) → backward of (filter test ps) ≡ filter test (backward of ps)
   backward_passed of [] = refl
-  backward_passed of (e ∷ es) = by (test e) refl (backward_passed of es) ∙ sym (filter-append test (backward of es) (cond (of e) (e ∷ []) []))
+  backward_passed of (p ∷ ps) = by (test p) refl (backward_passed of ps) ∙ sym (filter-append test (backward of ps) (cond (of p) (p ∷ []) []))
     where
-      one : (b d : Bool) → test e ≡ b → filter test (cond d (e ∷ []) []) ≡ cond b (cond d (e ∷ []) []) []
+      one : (b d : Bool) → test p ≡ b → filter test (cond d (p ∷ []) []) ≡ cond b (cond d (p ∷ []) []) []
       one true false is = refl
       one false false is = refl
-      one true true is = ap (λ b. cond b (e ∷ []) []) is
-      one false true is = ap (λ b. cond b (e ∷ []) []) is
+      one true true is = ap (λ b. cond b (p ∷ []) []) is
+      one false true is = ap (λ b. cond b (p ∷ []) []) is
 
-      by : (b : Bool) → test e ≡ b → backward of (filter test es) ≡ filter test (backward of es)
-          → backward of (filter test (e ∷ es)) ≡ filter test (backward of es) ++ filter test (cond (of e) (e ∷ []) [])
+      by : (b : Bool) → test p ≡ b → backward of (filter test ps) ≡ filter test (backward of ps)
+          → backward of (filter test (p ∷ ps)) ≡ filter test (backward of ps) ++ filter test (cond (of p) (p ∷ []) [])
       by true is rest =
-          ap (λ b. backward of (cond b (e ∷ filter test es) (filter test es))) is
-          ∙ ap (λ xs. xs ++ cond (of e) (e ∷ []) []) rest
-          ∙ ap (λ xs. filter test (backward of es) ++ xs) (sym (one true (of e) is))
+          ap (λ b. backward of (cond b (p ∷ filter test ps) (filter test ps))) is
+          ∙ ap (λ xs. xs ++ cond (of p) (p ∷ []) []) rest
+          ∙ ap (λ xs. filter test (backward of ps) ++ xs) (sym (one true (of p) is))
       by false is rest =
-          ap (λ b. backward of (cond b (e ∷ filter test es) (filter test es))) is
-          ∙ rest ∙ sym (append-nil (filter test (backward of es)))
-          ∙ ap (λ xs. filter test (backward of es) ++ xs) (sym (one false (of e) is))
+          ap (λ b. backward of (cond b (p ∷ filter test ps) (filter test ps))) is
+          ∙ rest ∙ sym (append-nil (filter test (backward of ps)))
+          ∙ ap (λ xs. filter test (backward of ps) ++ xs) (sym (one false (of p) is))
 
-  order_passed : (es : List Entry) (n : ℕ) → entries_by_priority (filter test es) n ≡ filter test (entries_by_priority es n)
-  order_passed es n = over (below n)
+  order_passed : (priorities : ℕ → ℕ → ℕ) (ps : List Pair) (n : ℕ) → pairs_by_priority priorities (filter test ps) n ≡ filter test (pairs_by_priority priorities ps n)
+  order_passed priorities ps n = over (below n)
     where
-      over : (ks : List ℕ) → flat_map (λ p. backward (of_priority p) (filter test es)) ks ≡ filter test (flat_map (λ p. backward (of_priority p) es) ks)
+      over : (ks : List ℕ) → flat_map (λ k. backward (λ (p : Pair). nat_eq (priorities p.0 p.1) k) (filter test ps)) ks ≡ filter test (flat_map (λ k. backward (λ (p : Pair). nat_eq (priorities p.0 p.1) k) ps) ks)
       over [] = refl
-      over (k ∷ ks) = let a = backward_passed (of_priority k) es in let r = over ks in (λ i. a i ++ r i) ∙ sym (filter-append test (backward (of_priority k) es) (flat_map (λ p. backward (of_priority p) es) ks))
+      over (k ∷ ks) =
+          let of = λ (p : Pair). nat_eq (priorities p.0 p.1) k in
+          let a = backward_passed of ps in
+          let r = over ks in
+          (λ i. a i ++ r i) ∙ sym (filter-append test (backward of ps) (flat_map (λ k. backward (λ (p : Pair). nat_eq (priorities p.0 p.1) k) ps) ks))
 
-pub holders_ordered : (t : TableRecord) → IsSound t → (units : List Entry) → map pair_of units ≡ all_units t.jobs → AllByRecursion (IsEntry t) units → AreHolders t (entries_by_priority (filter (holds_some t.entries) units) 10)
+pub holders_ordered : (t : TableRecord) → IsSound t → (units : List Entry) → map pair_of units ≡ filter (holds_some t.entries) (all_units t.jobs) → AllByRecursion (IsEntry t) units → AreHolders t (entries_by_priority units 10)
 holders_ordered t s units is each =
+    let priorities = priority_of (as_known t.jobs) in
+    let test = holds_some t.entries in
     let ordered = entries_by_priority units 10 in
-    let pairs : map pair_of ordered ≡ pairs_by_priority (priority_of (as_known t.jobs)) (all_units t.jobs) 10 = pairs_ordered t units each 10 ∙ ap (λ ps. pairs_by_priority (priority_of (as_known t.jobs)) ps 10) is in
-    subst (AreHolders t) (sym (order_passed (holds_some t.entries) units 10)) (holders_are t s ordered pairs (all_ordered (IsEntry t) units each 10) (ordered_few t s ordered pairs))
+    let all = pairs_by_priority priorities (all_units t.jobs) 10 in
+    let pairs : map pair_of ordered ≡ filter test all = pairs_ordered t units each 10 ∙ ap (λ ps. pairs_by_priority priorities ps 10) is ∙ order_passed test priorities (all_units t.jobs) 10 in
+    record {
+      each = all_ordered (IsEntry t) units each 10;
+      few =
+          let a : length (map pair_of ordered) ≡ length ordered = length-map ordered pair_of in
+          let b = ap length pairs in
+          let c = filter_few test all in
+          let l = ordered_length priorities (all_units t.jobs) 10 in
+          let f = few_units t.jobs s.in_order in
+          omega (arith, a, b, c, l, f);
+      lists = λ m. ap (flat_map (entry_on t.entries m)) pairs ∙ holders_listed t.entries m all ∙ sym (walk_is t s m);
+    }

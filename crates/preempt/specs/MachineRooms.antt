@@ -18,15 +18,15 @@ pub record IsRoom (t : TableRecord) (g p : ℕ) (guaranteed : Bool) (m : ℕ) (r
   pub beyond : (a u i : ℕ) → g ≡ group_of (as_known t.jobs) a → p ≡ priority_of (as_known t.jobs) a u → guaranteed ≡ is_guaranteed_in (board_of t) t.entries (spot a u m)
       → i < t.cluster.resources → slice_index room i < size_at (as_known t.jobs) a u i → victims_in (board_of t) t.entries (spot a u m) ≡ None
 
--- no number of a room is above that of another list
-pub record IsNarrower (wide room : List ℕ) : Type 0 where
-  pub each : (i : ℕ) → i < 8 → slice_index room i ≤ slice_index wide i
+-- in each of so many resources a room is not above another list
+pub record IsNarrower (resources : ℕ) (wide room : List ℕ) : Type 0 where
+  pub each : (i : ℕ) → i < resources → slice_index room i ≤ slice_index wide i
 
 -- for each machine the room, and what none of them goes beyond
 pub record AreRooms (t : TableRecord) (r : Rooms) : Type 0 where
   pub long : length r.each.items ≡ length t.cluster.machines
   pub rooms : (m : ℕ) (x : Sums) → slice_get r.each.items m ≡ Some x → IsRoom t r.group r.priority r.guaranteed m x.q
-  pub narrower : (m : ℕ) (x : Sums) → slice_get r.each.items m ≡ Some x → IsNarrower r.widest x.q
+  pub narrower : (m : ℕ) (x : Sums) → slice_get r.each.items m ≡ Some x → IsNarrower t.cluster.resources r.widest x.q
 
 -- the rooms are for units of the kind of a need
 pub record IsFor (n : Need) (r : Rooms) : Type 0 where

@@ -1,10 +1,11 @@
 -- What is kept of each machine, and what of a unit that waits.
-use Rattle.std.specs.Prelude.{◌≡◌, ℕ, ◌+◌, ◌<◌, ◌≤◌, Bool, true, false, not, nat_eq, nat_lt, ◌&&◌, ◌||◌, List, length, map, get_or, slice_index, slice_get, Some, None}
+use Rattle.std.specs.Prelude.{◌≡◌, ℕ, ◌+◌, ◌<◌, ◌≤◌, Bool, true, false, not, nat_eq, nat_lt, ◌&&◌, ◌||◌, List, length, map, get_or, slice_index, slice_get, slice_range, Some, None}
+use Rattle.std.specs.Borrow.{Bor}
 use Rattle.std.specs.List.{AllByRecursion, flat_map}
 use Rattle.fuxi_terms.specs.Cluster.{has_at, limit_at, is_narrow}
 use Rattle.fuxi_terms.specs.Jobs.{priority_of, group_of, size_at}
 use Rattle.fuxi_terms.specs.Lists.{below_each}
-use Rattle.fuxi_terms.specs.Tables.{spot, total_at, usage_at}
+use Rattle.fuxi_terms.specs.Tables.{spot, held_on, total_at, usage_at}
 use Rattle.fuxi_terms.specs.Keys.{Pair}
 use Rattle.written_roles.specs.Preemption.{is_guaranteed_in, victims_in}
 use Rattle.grant_table.specs.GrantTables.{TableRecord, as_known}
@@ -15,6 +16,7 @@ use Rattle.preempt.specs.declared.entry.GroupUse.{GroupUse}
 use Rattle.preempt.specs.declared.shelf.Loose.{Loose}
 use Rattle.preempt.specs.declared.shelf.Loose.TheVariants.{Nobody, One, Several}
 use Rattle.preempt.specs.declared.shelf.Shelf.{Shelf}
+use Rattle.preempt.specs.declared.walk.Listing.{Listing}
 use Rattle.preempt.specs.Given.{IsEntry, AreSpared, no_group, written, board_of, pair_of}
 use Rattle.preempt.specs.Walks.{entry_on}
 
@@ -23,6 +25,38 @@ pub record AreHolders (t : TableRecord) (units : List Entry) : Type 0 where
   pub each : AllByRecursion (IsEntry t) units
   pub few : length units ≤ 1000000
   pub lists : (m : ℕ) → flat_map (entry_on t.entries m) (map pair_of units) ≡ entries_on (board_of t) t.entries m
+
+-- of these units those that have grants on a machine, with their number there
+pub record IsListed (t : TableRecord) (units : List Entry) (m : ℕ) (entries : List Entry) : Type 0 where
+  pub walk : map (written m) entries ≡ flat_map (entry_on t.entries m) (map pair_of units)
+  pub each : AllByRecursion (IsEntry t) entries
+  pub few : length entries ≤ length units
+
+-- by machine what a unit has, and that of each unit
+pub record IsRow (t : TableRecord) (e : Entry) (row : List ℕ) : Type 0 where
+  pub wide : length row ≡ length t.cluster.machines
+  pub is : (m : ℕ) → get_or row m 0 ≡ held_on t.entries e.app.0 e.unit.0 m
+
+pub record AreRead (t : TableRecord) (units : List Entry) (counts : List (Bor (List ℕ))) : Type 0 where
+  pub long : length counts ≡ length units
+  pub each : (k : ℕ) (e : Entry) (d : Bor (List ℕ)) → k < length units → IsRow t (get_or units k e) (get_or counts k d).now
+
+-- the entries of a machine, in the order of the walk
+pub record IsWalked (t : TableRecord) (m : ℕ) (entries : List Entry) : Type 0 where
+  pub walk : map (written m) entries ≡ entries_on (board_of t) t.entries m
+  pub each : AllByRecursion (IsEntry t) entries
+  pub few : length entries ≤ 1000000
+
+-- those of a machine, from its start to the next
+pub record IsRun (t : TableRecord) (m : ℕ) (entries : List Entry) (starts : List ℕ) : Type 0 where
+  pub order : get_or starts m 0 ≤ get_or starts (m + 1) 0
+  pub inside : get_or starts (m + 1) 0 ≤ length entries
+  pub walked : IsWalked t m (slice_range entries (get_or starts m 0) (get_or starts (m + 1) 0))
+
+-- those of all machines
+pub record AreWalked (t : TableRecord) (l : Listing) : Type 0 where
+  pub long : length l.starts.items ≡ length t.cluster.machines + 1
+  pub each : (m : ℕ) → m < length t.cluster.machines → IsRun t m l.entries.items l.starts.items
 
 -- a unit without victims, wherever it is tried
 pub record HasNoVictims (t : TableRecord) (p : Pair) : Type 0 where
@@ -54,15 +88,15 @@ pub record IsLoose (resources : ℕ) (groups : List GroupUse) (loose : Loose) (e
   pub loosened : spares resources (get_or groups e.group no_group) e.size ≡ true → is_loose loose e.group ≡ true
 
 pub record IsShelf (t : TableRecord) (groups : List GroupUse) (m : ℕ) (s : Shelf) : Type 0 where
-  pub walk : map (written m) s.entries.items ≡ entries_on (board_of t) t.entries m
-  pub each : AllByRecursion (IsEntry t) s.entries.items
-  pub few : length s.entries.items ≤ 1000000
-  pub spared : AreSpared t m s.entries.items s.spared.items
+  pub walk : map (written m) s.entries.now ≡ entries_on (board_of t) t.entries m
+  pub each : AllByRecursion (IsEntry t) s.entries.now
+  pub few : length s.entries.now ≤ 1000000
+  pub spared : AreSpared t m s.entries.now s.spared.items
   pub few_spared : length s.spared.items ≤ 1000000
   pub has : (i : ℕ) → i < t.cluster.resources → slice_index s.has i ≡ has_at t.cluster m i
   pub used : (i : ℕ) → i < t.cluster.resources → slice_index s.used i ≡ total_at (as_known t.jobs) m i t.entries
-  pub low : AllByRecursion (IsLow s.lowest) s.entries.items
-  pub loose_are : AllByRecursion (IsLoose t.cluster.resources groups s.loose) s.entries.items
+  pub low : AllByRecursion (IsLow s.lowest) s.entries.now
+  pub loose_are : AllByRecursion (IsLoose t.cluster.resources groups s.loose) s.entries.now
 
 pub record AreShelves (t : TableRecord) (groups : List GroupUse) (shelves : List Shelf) : Type 0 where
   pub long : length shelves ≡ length t.cluster.machines

@@ -30,8 +30,8 @@ abbrev pub pairs_by_priority : (ℕ → ℕ → ℕ) → List Pair → ℕ → L
 pairs_by_priority priorities ps n = flat_map (λ k. backward (λ p. nat_eq (priorities p.0 p.1) k) ps) (below n)
 
 -- whether a unit has grants on any machine
-abbrev pub holds_some : Table → Entry → Bool
-holds_some es e = nat_lt 0 (held es e.app.0 e.unit.0)
+abbrev pub holds_some : Table → Pair → Bool
+holds_some es p = nat_lt 0 (held es p.0 p.1)
 
 -- the entry of a unit on a machine, where it has grants there
 abbrev pub entry_on : Table → ℕ → Pair → Table

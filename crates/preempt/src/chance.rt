@@ -5,13 +5,14 @@ ghost use Rattle.std.specs.List.{AllByRecursion};
 ghost use Rattle.preempt.specs.declared.entry.Entry.{Entry};
 ghost use Rattle.preempt.specs.Given.{AreGroups, IsEntry, pair_of};
 ghost use Rattle.preempt.specs.Shelves.{AreHolders, HasNoVictims, IsLoose, IsLow};
+ghost use Rattle.preempt.specs.Walks.{entries_by_priority};
 
 use crate::entry::{Entry, GroupUse};
 use crate::need::need_of;
-use crate::shelf::{Loose, loose_of, lowest_of, may_take_some};
+use crate::shelf::{Loose, is_other_loose, loose_of, lowest_of};
 use grant_table::GrantTable;
 
-// Whether a unit may take any of the grants that have these bounds.
+// Whether a unit may take any of the grants that have these bounds. What it needs is asked last.
 fn may_take_of(
     table: &GrantTable,
     groups: &[GroupUse],
@@ -24,8 +25,14 @@ fn may_take_of(
     ensures { result ≡ false → (holders : List Entry) → AreHolders table.now holders → AllByRecursion (IsLow lowest.now) holders → AllByRecursion (IsLoose table.now.cluster.resources groups.now loose) holders → HasNoVictims table.now (pair_of e.now) }
 {
     let _cluster = table.cluster();
+    if lowest[e.group] < e.priority {
+        return true;
+    }
+    if !is_other_loose(loose, e.group) {
+        return false;
+    }
     match need_of(table, &groups[e.group], e) {
-        Some(need) => may_take_some(&need, lowest, loose),
+        Some(need) => need.guaranteed,
         None => false,
     }
 }
@@ -38,7 +45,8 @@ pub(crate) fn may_any_take(
     waiting: &[Entry],
 ) -> bool
     requires groups { AreGroups table.now groups.now }
-    requires holders { AreHolders table.now holders.now }
+    requires each { AllByRecursion (IsEntry table.now) holders.now }
+    requires holders { AreHolders table.now (entries_by_priority holders.now 10) }
     requires entries { AllByRecursion (IsEntry table.now) waiting.now }
     ensures { result ≡ false → AllByRecursion (HasNoVictims table.now) (map pair_of waiting.now) }
 {

@@ -103,7 +103,7 @@ pub(crate) fn need_of(table: &GrantTable, group: &GroupUse, e: &Entry) -> Option
 }
 
 // What it needs on a machine.
-fn on_shelf(need: &Need, e: &Entry, shelf: &Shelf) -> Need
+fn on_shelf(need: &Need, e: &Entry, shelf: &Shelf<'_>) -> Need
     ensures need { (t : TableRecord) (groups : List GroupUse) (m : ℕ) → IsEntry t e.now → IsWanted t e.now.app.0 e.now.unit.0 need.now → IsShelf t groups m shelf.now → t.cluster.resources ≤ 8 → IsNeed t (spot e.now.app.0 e.now.unit.0 m) result }
     ensures group { result.group ≡ need.now.group }
     ensures resources { result.resources ≡ need.now.resources }
@@ -120,14 +120,14 @@ pub(crate) fn victims_for(
     alloc: Global,
     need: &Need,
     e: &Entry,
-    shelf: &Shelf,
+    shelf: &Shelf<'_>,
     groups: &[GroupUse],
     scratch: &mut Scratch,
 ) -> Result<Option<Vec<Victim>>, OutOfMemory>
     requires resources { need.now.resources ≤ 8 }
     requires own { need.now.group < 32 }
-    requires few { length shelf.now.entries.items ≤ 1000000 }
-    requires small { All (λ e. e.group < 32) shelf.now.entries.items }
+    requires few { length shelf.now.entries.now ≤ 1000000 }
+    requires small { All (λ e. e.group < 32) shelf.now.entries.now }
     requires long { length groups.now ≡ 32 }
     ensures found { IfOk result (λ found. (t : TableRecord) (m : ℕ) → IsSound t → AreGroups t groups.now → IsEntry t e.now → IsWanted t e.now.app.0 e.now.unit.0 need.now → IsShelf t groups.now m shelf.now →
         MatchOption found (victims_in (board_of t) t.entries (spot e.now.app.0 e.now.unit.0 m) ≡ None) (λ vs. victims_in (board_of t) t.entries (spot e.now.app.0 e.now.unit.0 m) ≡ Some (losers_of m vs.items))) }
@@ -137,5 +137,5 @@ pub(crate) fn victims_for(
         return Ok(None);
     }
     let need = on_shelf(need, e, shelf);
-    victims_on(alloc, &shelf.entries, &need, groups, scratch)
+    victims_on(alloc, shelf.entries, &need, groups, scratch)
 }

@@ -23,7 +23,7 @@ pub(crate) struct Rooms {
     pub(crate) guaranteed: bool,
     /// By machine.
     pub(crate) each: Vec<Sums>,
-    /// Place by place the greatest of them.
+    /// In each resource the greatest of them.
     pub(crate) widest: [u128; 8],
 }
 
@@ -40,15 +40,14 @@ pub(crate) fn is_within(resources: usize, size: &[u64; 8], room: &[u128; 8]) -> 
     all
 }
 
-// Place by place the greater.
-fn greater_of(a: &[u128; 8], b: &[u128; 8]) -> [u128; 8]
-    ensures { (i : ℕ) → i < 8 → slice_index result i ≡ max (slice_index a.now i) (slice_index b.now i) }
+// In each of so many resources at least so wide as a room.
+fn widen(resources: usize, widest: &mut [u128; 8], room: &[u128; 8])
+    requires { resources ≤ 8 }
+    ensures { (i : ℕ) → i < resources → slice_index widest.new i ≡ max (slice_index widest.old i) (slice_index room.now i) }
 {
-    let mut q = [0; 8];
-    for i in 0..8 {
-        q[i] = a[i].max(b[i]);
+    for i in 0..resources {
+        widest[i] = widest[i].max(room[i]);
     }
-    q
 }
 
 // What is left of what there is and of this sum, where so much is used.
@@ -63,7 +62,7 @@ fn left_of(has: u64, sum: u128, used: u64) -> u128
 // to a group, where so much of it is its own.
 fn left_on(
     resources: usize,
-    shelf: &Shelf,
+    shelf: &Shelf<'_>,
     all: &[u128; 8],
     group: &GroupUse,
     own: &[u128; 8],
@@ -84,10 +83,10 @@ fn left_on(
 
 // What there is room for on a machine, once all that may be taken there is gone: it fits, and its group may use it.
 // Where nothing may be taken there are no victims, so no room is kept.
-fn room_on(shelf: &Shelf, need: &Need, groups: &[GroupUse]) -> Sums
+fn room_on(shelf: &Shelf<'_>, need: &Need, groups: &[GroupUse]) -> Sums
     requires resources { need.now.resources ≤ 8 }
     requires own { need.now.group < 32 }
-    requires few { length shelf.now.entries.items ≤ 1000000 }
+    requires few { length shelf.now.entries.now ≤ 1000000 }
     requires few_spared { length shelf.now.spared.items ≤ 1000000 }
     requires long { length groups.now ≡ 32 }
     ensures { (t : TableRecord) (m : ℕ) → AreGroups t groups.now → IsShelf t groups.now m shelf.now → need.now.resources ≡ t.cluster.resources → IsRoom t need.now.group need.now.priority need.now.guaranteed m result.q }
@@ -95,7 +94,7 @@ fn room_on(shelf: &Shelf, need: &Need, groups: &[GroupUse]) -> Sums
     if !may_take_some(need, &shelf.lowest, shelf.loose) {
         return Sums { q: [0; 8] };
     }
-    let lower = lower_of(&shelf.entries, need);
+    let lower = lower_of(shelf.entries, need);
     let all = with_spared(&lower, &shelf.spared, need);
     let group = &groups[need.group];
     Sums {
@@ -108,7 +107,7 @@ fn rooms_of(
     alloc: Global,
     table: &GrantTable,
     groups: &[GroupUse],
-    shelves: &[Shelf],
+    shelves: &[Shelf<'_>],
     need: &Need,
 ) -> Result<Rooms, OutOfMemory>
     requires groups { AreGroups table.now groups.now }
@@ -123,7 +122,7 @@ fn rooms_of(
     let mut widest = [0; 8];
     for shelf in shelves {
         let room = room_on(shelf, need, groups);
-        widest = greater_of(&widest, &room.q);
+        widen(need.resources, &mut widest, &room.q);
         each.push(room)?;
     }
     Ok(Rooms {
@@ -168,7 +167,7 @@ pub(crate) fn rooms_at(
     alloc: Global,
     table: &GrantTable,
     groups: &[GroupUse],
-    shelves: &[Shelf],
+    shelves: &[Shelf<'_>],
     need: &Need,
     kinds: &mut Vec<Rooms>,
 ) -> Result<usize, OutOfMemory>

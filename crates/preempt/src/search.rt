@@ -22,7 +22,7 @@ use crate::plan::{Plan, Victims};
 use crate::room::{Rooms, is_within, rooms_at};
 use crate::shelf::{Shelf, groups_of, shelves_of};
 use crate::victims::Scratch;
-use crate::walk::holders_by_priority;
+use crate::walk::{by_priority, holders_of, listing_of};
 use fuxi_terms::OutOfMemory;
 use grant_table::{Asking, GrantTable, Pick, Steps};
 use schedule_unit::MachineNo;
@@ -47,7 +47,7 @@ fn first_machine<P: Asking>(
     table: &GrantTable,
     placer: &P,
     groups: &[GroupUse],
-    shelves: &[Shelf],
+    shelves: &[Shelf<'_>],
     rooms: &[Sums],
     e: &Entry,
     need: &Need,
@@ -92,7 +92,7 @@ fn unit_plan<P: Asking>(
     table: &GrantTable,
     placer: &P,
     groups: &[GroupUse],
-    shelves: &[Shelf],
+    shelves: &[Shelf<'_>],
     e: &Entry,
     kinds: &mut Vec<Rooms>,
     scratch: &mut Scratch,
@@ -133,7 +133,7 @@ fn first_unit<P: Asking>(
     table: &GrantTable,
     placer: &P,
     groups: &[GroupUse],
-    shelves: &[Shelf],
+    shelves: &[Shelf<'_>],
     waiting: &[Entry],
     priority: u8,
     scratch: &mut Scratch,
@@ -183,16 +183,18 @@ pub fn find<P: Asking, L: Ledger>(
         return Ok(None);
     }
     let groups = groups_of(alloc, table)?;
-    let holders = holders_by_priority(alloc, table)?;
+    let units = holders_of(alloc, table)?;
     let waiting = waiting_of(alloc, table, placer)?;
-    if !may_any_take(table, &groups, &holders, &waiting) {
+    if !may_any_take(table, &groups, &units, &waiting) {
         return Ok(None);
     }
+    let holders = by_priority(alloc, &units)?;
     let mut scratch = Scratch {
         set: Vec::new(alloc),
         parts: Parts::new(),
     };
-    let shelves = shelves_of(alloc, table, &groups, &holders, &mut scratch.parts, steps)?;
+    let listing = listing_of(alloc, table, &holders)?;
+    let shelves = shelves_of(alloc, table, &groups, &listing, &mut scratch.parts, steps)?;
     for late in 0..10_u8 {
         let priority = 9 - late;
         match first_unit(

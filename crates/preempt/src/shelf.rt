@@ -5,12 +5,12 @@ ghost use Rattle.std.specs.Prelude.{◌≡◌, ℕ, ◌+◌, ◌-◌, ◌<◌, �
 ghost use Rattle.std.specs.List.{All, AllByRecursion};
 ghost use Rattle.preempt.specs.Given.{AreGroups, AreSpared, IsEntry, IsGroup};
 ghost use Rattle.grant_table.specs.GrantTables.{TableRecord};
-ghost use Rattle.preempt.specs.Shelves.{AreHolders, IsShelf, AreShelves, IsLow, IsLoose, is_loose, is_other_loose, spares, may_take_some};
+ghost use Rattle.preempt.specs.Shelves.{IsShelf, IsWalked, AreWalked, AreShelves, IsLow, IsLoose, is_loose, is_other_loose, spares, may_take_some};
 
 use crate::entry::{Entry, GroupUse, Need, raised, recounted};
 use crate::number::spared_number;
 use crate::parts::Parts;
-use crate::walk::entries_on;
+use crate::walk::Listing;
 use cluster_desc::Cluster;
 use fuxi_terms::OutOfMemory;
 use grant_table::{GrantTable, Steps};
@@ -28,9 +28,9 @@ pub(crate) enum Loose {
 
 /// A machine.
 #[derive(Drop)]
-pub(crate) struct Shelf {
+pub(crate) struct Shelf<'a> {
     /// Its grants, in the order of the walk.
-    pub(crate) entries: Vec<Entry>,
+    pub(crate) entries: &'a [Entry],
     /// Those that their groups spare, in the same order.
     pub(crate) spared: Vec<Entry>,
     /// By group, a priority that none of its grants here is below.
@@ -52,8 +52,8 @@ fn is_loose(loose: Loose, group: usize) -> bool
     }
 }
 
-// Whether another group than this one is loose.
-fn is_other_loose(loose: Loose, group: usize) -> bool
+/// Whether another group than this one is loose.
+pub(crate) fn is_other_loose(loose: Loose, group: usize) -> bool
     ensures { result ≡ is_other_loose loose group }
 {
     match loose {
@@ -199,19 +199,19 @@ fn used_of(has: &[u64; 8], free: &[u64; 8]) -> [u64; 8]
     used
 }
 
-// What is kept of a machine.
-fn shelf_of<L: Ledger>(
+// What is kept of a machine, from its entries in the order of the walk.
+fn shelf_of<'a, L: Ledger>(
     alloc: Global,
     table: &GrantTable,
     groups: &[GroupUse],
-    holders: &[Entry],
+    entries: &'a [Entry],
     machine: MachineNo,
     parts: &mut Parts,
     steps: &mut Steps<L>,
-) -> Result<Shelf, OutOfMemory>
+) -> Result<Shelf<'a>, OutOfMemory>
     requires machine { machine.0 < length table.now.cluster.machines }
     requires groups { AreGroups table.now groups.now }
-    requires holders { AreHolders table.now holders.now }
+    requires entries { IsWalked table.now machine.0 entries.now }
     ensures shelf { IfOk result (λ shelf. IsShelf table.now groups.now machine.0 shelf) }
     ensures step { steps.new ≡ steps.old + 1 }
 {
@@ -219,10 +219,9 @@ fn shelf_of<L: Ledger>(
     let cluster = table.cluster();
     let resources = cluster.resources() as usize;
     let has = cluster.machine(machine).has.q;
-    let entries = entries_on(alloc, table, holders, machine)?;
-    let lowest = lowest_of(&entries);
-    let loose = loose_of(&entries, resources, groups);
-    let spared = spared_of(alloc, &entries, loose, resources, groups, parts)?;
+    let lowest = lowest_of(entries);
+    let loose = loose_of(entries, resources, groups);
+    let spared = spared_of(alloc, entries, loose, resources, groups, parts)?;
     Ok(Shelf {
         entries,
         spared,
@@ -233,24 +232,27 @@ fn shelf_of<L: Ledger>(
     })
 }
 
-/// What is kept of each machine, from the units that have grants. For each what is free is asked once.
-pub(crate) fn shelves_of<L: Ledger>(
+/// What is kept of each machine, from the entries of all. For each what is free is asked once.
+pub(crate) fn shelves_of<'a, L: Ledger>(
     alloc: Global,
     table: &GrantTable,
     groups: &[GroupUse],
-    holders: &[Entry],
+    listing: &'a Listing,
     parts: &mut Parts,
     steps: &mut Steps<L>,
-) -> Result<Vec<Shelf>, OutOfMemory>
+) -> Result<Vec<Shelf<'a>>, OutOfMemory>
     requires groups { AreGroups table.now groups.now }
-    requires holders { AreHolders table.now holders.now }
+    requires listing { AreWalked table.now listing.now }
     ensures shelves { IfOk result (λ shelves. AreShelves table.now groups.now shelves.items) }
     ensures steps { steps.new ≤ steps.old + length table.now.cluster.machines }
 {
-    let mut shelves = Vec::with_capacity(alloc, table.cluster().machines() as usize)?;
-    for number in 0..table.cluster().machines() {
+    let machines = table.cluster().machines();
+    let mut shelves = Vec::with_capacity(alloc, machines as usize)?;
+    for number in 0..machines {
+        let at = number as usize;
+        let entries = &listing.entries[listing.starts[at]..listing.starts[at + 1]];
         let machine = MachineNo(number);
-        shelves.push(shelf_of(alloc, table, groups, holders, machine, parts, steps)?)?;
+        shelves.push(shelf_of(alloc, table, groups, entries, machine, parts, steps)?)?;
     }
     Ok(shelves)
 }

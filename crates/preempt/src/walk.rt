@@ -1,19 +1,21 @@
 //! The admitted units in the order in which grants are walked: lower priority, then greater job, then greater
 //! unit. That order is the same on each machine.
 
-ghost use Rattle.std.specs.Prelude.{◌≡◌, ℕ, ◌+◌, ◌<◌, ◌≤◌, ◌++◌, Some, IfOk, OnOk, length, map, filter, slice_get, nat_eq};
-ghost use Rattle.std.specs.List.{AllByRecursion, flat_map};
+ghost use Rattle.std.specs.Prelude.{◌≡◌, ℕ, ◌+◌, ◌<◌, ◌≤◌, List, [], ◌∷◌, ◌++◌, Some, IfOk, OnOk, length, drop, map, filter, slice_get, nat_eq};
+ghost use Rattle.std.specs.List.{All, AllByRecursion};
+ghost use Rattle.fuxi_terms.specs.Cluster.{JobRecord};
 ghost use Rattle.fuxi_terms.specs.Jobs.{unit_count, unit_of, group_of, priority_of};
 ghost use Rattle.fuxi_terms.specs.Lists.{below};
 ghost use Rattle.grant_table.specs.GrantTables.{TableRecord, IsSound, as_known};
-ghost use Rattle.preempt.specs.Given.{IsEntry, pair_of, written};
-ghost use Rattle.preempt.specs.Shelves.{AreHolders};
-ghost use Rattle.preempt.specs.Walks.{holds_some, units_in, all_units, backward, of_priority, entries_by_priority, entry_on};
+ghost use Rattle.preempt.specs.Given.{IsEntry, pair_of};
+ghost use Rattle.preempt.specs.Shelves.{AreHolders, AreRead, AreWalked, IsListed};
+ghost use Rattle.preempt.specs.declared.entry.Entry.{Entry};
+ghost use Rattle.preempt.specs.Walks.{holds_some, units_in, all_units, backward, of_priority, entries_by_priority};
 
 use crate::entry::{Entry, recounted};
 use fuxi_terms::OutOfMemory;
 use grant_table::GrantTable;
-use schedule_unit::{AppNo, Job, MachineNo, UnitNo};
+use schedule_unit::{Job, UnitNo};
 use std::alloc::Global;
 
 /// A unit of an admitted job, with no grants.
@@ -33,28 +35,35 @@ pub(crate) fn entry_of(job: &Job, unit: UnitNo) -> Entry
     }
 }
 
-// The units of one job.
-fn push_units(units: &mut Vec<Entry>, job: &Job) -> Result<(), OutOfMemory>
-    ensures pairs { OnOk result (map pair_of units.new.items ≡ map pair_of units.old.items ++ units_in job.now (length job.now.units)) }
-    ensures entries { OnOk result ((t : TableRecord) (i : ℕ) → IsSound t → slice_get t.jobs i ≡ Some job.now → AllByRecursion (IsEntry t) units.old.items → AllByRecursion (IsEntry t) units.new.items) }
+// Of the units of the job at a place those that have grants, wherever it is.
+fn push_holders(holders: &mut Vec<Entry>, table: &GrantTable, index: u32) -> Result<(), OutOfMemory>
+    requires { index < length table.now.jobs }
+    ensures pairs { OnOk result ((j : JobRecord) → slice_get table.now.jobs index ≡ Some j → map pair_of holders.new.items ≡ map pair_of holders.old.items ++ filter (holds_some table.now.entries) (units_in j (length j.units))) }
+    ensures entries { OnOk result (AllByRecursion (IsEntry table.now) holders.old.items → AllByRecursion (IsEntry table.now) holders.new.items) }
 {
+    let _cluster = table.cluster();
+    let job = table.job(index);
     for number in 0..job.units() {
-        units.push(entry_of(job, UnitNo(number)))?;
+        let unit = UnitNo(number);
+        if table.held(job.app(), unit) == 0 {
+            continue;
+        }
+        holders.push(entry_of(job, unit))?;
     }
     Ok(())
 }
 
-// All admitted units in the order of job and unit.
-fn all_units(alloc: Global, table: &GrantTable) -> Result<Vec<Entry>, OutOfMemory>
-    ensures pairs { IfOk result (λ units. map pair_of units.items ≡ all_units table.now.jobs) }
-    ensures entries { IfOk result (λ units. AllByRecursion (IsEntry table.now) units.items) }
+/// The units that have grants, in the order of job and unit.
+pub(crate) fn holders_of(alloc: Global, table: &GrantTable) -> Result<Vec<Entry>, OutOfMemory>
+    ensures each { IfOk result (λ holders. AllByRecursion (IsEntry table.now) holders.items) }
+    ensures holders { IfOk result (λ holders. AreHolders table.now (entries_by_priority holders.items 10)) }
 {
     let _cluster = table.cluster();
-    let mut units = Vec::new(alloc);
+    let mut holders = Vec::with_capacity(alloc, table.jobs() as usize)?;
     for index in 0..table.jobs() {
-        push_units(&mut units, table.job(index))?;
+        push_holders(&mut holders, table, index)?;
     }
-    Ok(units)
+    Ok(holders)
 }
 
 // Those of one priority, from the last to the first.
@@ -70,8 +79,8 @@ fn push_priority(sorted: &mut Vec<Entry>, units: &[Entry], priority: u8) -> Resu
     Ok(())
 }
 
-// In the order of the walk, where they stand in that of job and unit.
-fn by_priority(alloc: Global, units: &[Entry]) -> Result<Vec<Entry>, OutOfMemory>
+/// In the order of the walk, where they stand in that of job and unit.
+pub(crate) fn by_priority(alloc: Global, units: &[Entry]) -> Result<Vec<Entry>, OutOfMemory>
     ensures { IfOk result (λ sorted. sorted.items ≡ entries_by_priority units.now 10) }
 {
     let mut sorted = Vec::with_capacity(alloc, units.len())?;
@@ -81,52 +90,69 @@ fn by_priority(alloc: Global, units: &[Entry]) -> Result<Vec<Entry>, OutOfMemory
     Ok(sorted)
 }
 
-// Of units those that have grants, wherever it is.
-fn holders_of(alloc: Global, table: &GrantTable, units: &[Entry]) -> Result<Vec<Entry>, OutOfMemory>
-    requires { AllByRecursion (IsEntry table.now) units.now }
-    ensures { IfOk result (λ holders. holders.items ≡ filter (holds_some table.now.entries) units.now) }
-{
-    let mut holders = Vec::new(alloc);
-    for e in units {
-        if table.held(e.app, e.unit) > 0 {
-            holders.push(*e)?;
-        }
-    }
-    Ok(holders)
+/// The entries of all machines, in the order of the walk, one machine behind another.
+#[derive(Drop)]
+pub(crate) struct Listing {
+    pub(crate) entries: Vec<Entry>,
+    /// Where the entries of each machine begin, and at last where those of the last end.
+    pub(crate) starts: Vec<usize>,
 }
 
-/// The units that have grants, in the order of the walk.
-pub(crate) fn holders_by_priority(
+// What each unit has by machine. Each is looked up once.
+fn counts_of<'a>(
     alloc: Global,
-    table: &GrantTable,
-) -> Result<Vec<Entry>, OutOfMemory>
-    ensures { IfOk result (λ holders. AreHolders table.now holders.items) }
-{
-    let _cluster = table.cluster();
-    let units = all_units(alloc, table)?;
-    let holders = holders_of(alloc, table, &units)?;
-    by_priority(alloc, &holders)
-}
-
-/// Of units those that have grants on a machine, with their number there.
-pub(crate) fn entries_on(
-    alloc: Global,
-    table: &GrantTable,
+    table: &'a GrantTable,
     units: &[Entry],
-    machine: MachineNo,
-) -> Result<Vec<Entry>, OutOfMemory>
-    requires machine { machine.0 < length table.now.cluster.machines }
-    requires units { AllByRecursion (IsEntry table.now) units.now }
-    ensures entries { IfOk result (λ entries. map (written machine.0) entries.items ≡ flat_map (entry_on table.now.entries machine.0) (map pair_of units.now)) }
-    ensures each { IfOk result (λ entries. AllByRecursion (IsEntry table.now) entries.items) }
-    ensures few { IfOk result (λ entries. length entries.items ≤ length units.now) }
+) -> Result<Vec<&'a [u32]>, OutOfMemory>
+    requires { AllByRecursion (IsEntry table.now) units.now }
+    ensures { IfOk result (λ counts. AreRead table.now units.now counts.items) }
 {
-    let mut entries = Vec::new(alloc);
+    let mut counts = Vec::with_capacity(alloc, units.len())?;
     for e in units {
-        let count = table.held_on(e.app, e.unit, machine);
-        if count > 0 {
-            entries.push(recounted(e, count))?;
-        }
+        counts.push(table.counts(e.app, e.unit))?;
     }
-    Ok(entries)
+    Ok(counts)
+}
+
+// With those of a machine behind what is listed.
+fn list_machine(
+    entries: &mut Vec<Entry>,
+    units: &[Entry],
+    counts: &[&[u32]],
+    machine: u32,
+) -> Result<(), OutOfMemory>
+    requires long { length counts.now ≡ length units.now }
+    requires wide { All (λ row. machine < length row.now) counts.now }
+    ensures kept { OnOk result (entries.new.items ≡ entries.old.items ++ drop (length entries.old.items) entries.new.items) }
+    ensures listed { OnOk result ((t : TableRecord) → AllByRecursion (IsEntry t) units.now → AreRead t units.now counts.now → IsListed t units.now machine (drop (length entries.old.items) entries.new.items)) }
+{
+    for at in 0..units.len() {
+        let count = counts[at][machine as usize];
+        if count == 0 {
+            continue;
+        }
+        entries.push(recounted(&units[at], count))?;
+    }
+    Ok(())
+}
+
+/// The entries of all machines, of units that have grants, which stand in the order of the walk.
+pub(crate) fn listing_of(
+    alloc: Global,
+    table: &GrantTable,
+    holders: &[Entry],
+) -> Result<Listing, OutOfMemory>
+    requires { AreHolders table.now holders.now }
+    ensures { IfOk result (AreWalked table.now) }
+{
+    let machines = table.cluster().machines();
+    let counts = counts_of(alloc, table, holders)?;
+    let mut entries = Vec::new(alloc);
+    let mut starts = Vec::with_capacity(alloc, machines as usize + 1)?;
+    starts.push(0)?;
+    for machine in 0..machines {
+        list_machine(&mut entries, holders, &counts, machine)?;
+        starts.push(entries.len())?;
+    }
+    Ok(Listing { entries, starts })
 }

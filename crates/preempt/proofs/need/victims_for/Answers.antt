@@ -1,4 +1,4 @@
-use Rattle.std.proofs.Common.{ℕ, sym, ◌∙◌, subst}
+use Rattle.std.proofs.Common.{ℕ, sym, ◌∙◌}
 use Rattle.std.specs.Prelude.{Option}
 use Rattle.std.specs.Global.{Vec}
 use Rattle.fuxi_terms.specs.Tables.{spot}
@@ -16,7 +16,7 @@ returns-then-not-may_take_some-clause-found c = λ t m sound groups entry wanted
 
 -- what is given on the machine
 given : (c : goal.After-victims_on) (t : TableRecord) (m : ℕ) → IsSound t → AreGroups t c.args.groups.now → IsEntry t c.args.e.now → IsWanted t c.args.e.now.app.0 c.args.e.now.unit.0 c.args.need.now → IsShelf t c.args.groups.now m c.args.shelf.now
-    → AreGiven t (spot c.args.e.now.app.0 c.args.e.now.unit.0 m) c.args.shelf.now.entries.items c.on_shelf-need.result c.args.groups.now
+    → AreGiven t (spot c.args.e.now.app.0 c.args.e.now.unit.0 m) c.args.shelf.now.entries.now c.on_shelf-need.result c.args.groups.now
 given c t m sound groups entry wanted shelf = record {
   walk = shelf.walk;
   each = shelf.each;
@@ -27,9 +27,9 @@ given c t m sound groups entry wanted shelf = record {
 pub returns-clause-found : goal.returns-clause-found
 returns-clause-found c = if_ok {A = Option (Vec Victim)} _ _ (λ found h t m sound groups entry wanted shelf.
     let s = spot c.args.e.now.app.0 c.args.e.now.unit.0 m in
-    h t s (subst (λ xs. AreGiven t s xs c.on_shelf-need.result c.args.groups.now) (sym c.deref.ensures.value) (given c t m sound groups entry wanted shelf)) sound) c.victims_on.result c.victims_on.ensures.found
+    h t s (given c t m sound groups entry wanted shelf) sound) c.victims_on.result c.victims_on.ensures.found
 
 pub returns-clause-takable : goal.returns-clause-takable
 returns-clause-takable c = if_ok {A = Option (Vec Victim)} _ _ (λ found h t m sound groups entry wanted shelf.
     let s = spot c.args.e.now.app.0 c.args.e.now.unit.0 m in
-    h t s (subst (λ xs. AreGiven t s xs c.on_shelf-need.result c.args.groups.now) (sym c.deref.ensures.value) (given c t m sound groups entry wanted shelf)) sound) c.victims_on.result c.victims_on.ensures.takable
+    h t s (given c t m sound groups entry wanted shelf) sound) c.victims_on.result c.victims_on.ensures.takable

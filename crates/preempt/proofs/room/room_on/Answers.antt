@@ -1,7 +1,7 @@
 use Rattle.std.proofs.Common.{sym, ◌+◌, ◌∙◌, ap, arith}
 use Rattle.std.specs.Prelude.{slice_index}
 use Rattle.fuxi_terms.specs.Tables.{spot}
-use Rattle.preempt.specs.GrantNumbers.{lower_in, spared_in}
+use Rattle.preempt.specs.GrantNumbers.{spared_in}
 use Rattle.preempt.proofs.MachineRoomsLemmas.{beyond_none}
 use Rattle.preempt.proofs.ShelvesLemmas.{none_to_take}
 use Rattle.preempt.proofs.room.room_on.Goals as goal
@@ -14,8 +14,8 @@ returns c = λ t m are shelf resources. record {
       beyond_none t c.args.groups.now m c.args.shelf.now n c.left_on.result a u i are shelf (record {
         lower = c.lower_of-lower.result;
         all = c.with_spared-all.result;
-        lower_are = λ k k_lt. c.lower_of-lower.ensures.is k k_lt ∙ ap (λ es. lower_in n k es) c.deref.ensures.value;
-        all_are = λ k k_lt. c.with_spared-all.ensures.is k k_lt ∙ ap (λ es. slice_index c.lower_of-lower.result k + spared_in n k es) c.deref-2.ensures.value;
+        lower_are = λ k k_lt. c.lower_of-lower.ensures.is k k_lt;
+        all_are = λ k k_lt. c.with_spared-all.ensures.is k k_lt ∙ ap (λ es. slice_index c.lower_of-lower.result k + spared_in n k es) c.deref.ensures.value;
         room_are = c.left_on.ensures;
       }) c.requires.own group priority guaranteed lt (omega (arith, lt, few, resources)) (omega (arith, lt, resources)) more;
 }

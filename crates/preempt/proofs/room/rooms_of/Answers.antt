@@ -18,14 +18,14 @@ loop-shelf-preserved c =
     let k = c.loop-shelf.shelf-index in
     let before = c.loop-shelf.each.items in
     let room = c.room_on-room.result in
-    let wide = c.greater_of-widest.result in
+    let wide = c.widen.new.widest in
     let long = c.loop-shelf.invariant.long in
     let pushed : c.push.new.self.items ≡ before ++ room ∷ [] = c.in_ok-push.ensures.items in
     let shelf = c.requires.shelves.each k c.shelf-item.result (shelf_at c.args.shelves.now k c.shelf-item.result c.loop-shelf-test.true c.shelf-item.is) in
     let here = c.room_on-room.ensures t k c.requires.groups shelf c.requires.resources in
-    let more = narrower_more c.loop-shelf.widest wide room.q c.greater_of-widest.ensures in
+    let more = narrower_more n.resources c.loop-shelf.widest wide room.q c.widen.ensures in
     record {
       long = let a = ap length pushed ∙ length-append before (room ∷ []) in omega (arith, a, long);
       rooms = λ m x e. each_more (λ m x. IsRoom t n.group n.priority n.guaranteed m x.q) before room c.loop-shelf.invariant.rooms (subst (λ m. IsRoom t n.group n.priority n.guaranteed m room.q) (sym long) here) m x (ap (λ xs. slice_get xs m) (sym pushed) ∙ e);
-      narrower = λ m x e. each_more (λ m x. IsNarrower wide x.q) before room (λ m x e. more.1 x.q (c.loop-shelf.invariant.narrower m x e)) more.0 m x (ap (λ xs. slice_get xs m) (sym pushed) ∙ e);
+      narrower = λ m x e. each_more (λ m x. IsNarrower n.resources wide x.q) before room (λ m x e. more.1 x.q (c.loop-shelf.invariant.narrower m x e)) more.0 m x (ap (λ xs. slice_get xs m) (sym pushed) ∙ e);
     }

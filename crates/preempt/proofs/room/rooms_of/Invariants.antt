@@ -8,5 +8,5 @@ abbrev pub invariant-loop-shelf : goal.invariant-loop-shelf
 invariant-loop-shelf l = record {
   long : length l.each.items ≡ l.shelf-index;
   rooms : (m : ℕ) (x : Sums) → slice_get l.each.items m ≡ Some x → IsRoom l.table l.need.group l.need.priority l.need.guaranteed m x.q;
-  narrower : (m : ℕ) (x : Sums) → slice_get l.each.items m ≡ Some x → IsNarrower l.widest x.q;
+  narrower : (m : ℕ) (x : Sums) → slice_get l.each.items m ≡ Some x → IsNarrower l.need.resources l.widest x.q;
 }

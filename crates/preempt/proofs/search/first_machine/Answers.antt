@@ -8,7 +8,6 @@ use Rattle.preempt.specs.Plans.{AreTakable, losers_of}
 use Rattle.preempt.proofs.CountedAsWritten.{at_index}
 use Rattle.preempt.proofs.MachineRoomsLemmas.{machine_beyond}
 use Rattle.preempt.proofs.Served.{shelf_at, passed_closed, passed_none, passed_without, found_here}
-use Rattle.preempt.proofs.ShelvesLemmas.{resources_few}
 use Rattle.preempt.proofs.search.first_machine.Goals as goal
 
 pub loop-number-preserved-then-not-is_within : goal.loop-number-preserved-then-not-is_within
@@ -19,7 +18,7 @@ loop-number-preserved-then-not-is_within g c =
     let same = ap (λ (x : ClusterRecord). length x.machines) c.cluster-cluster.ensures.cluster in
     let there : n < length t.cluster.machines = let a = c.loop-number-test.true in let b = c.machines-number-end.ensures.number in omega (arith, a, b, same) in
     passed_none t (g.P.Asking.usable c.args.placer.now) (pair_of e) n
-    (machine_beyond t e c.requires.entry c.args.need.now c.requires.wanted c.args.rooms.now n c.requires.rooms there (resources_few t.cluster c.cluster-cluster.ensures.sound.valid) (sym c.is_within.ensures ∙ c.if-not-is_within.true))
+    (machine_beyond t e c.requires.entry c.args.need.now c.requires.wanted c.args.rooms.now n c.requires.rooms there (sym c.is_within.ensures ∙ c.if-not-is_within.true))
     c.loop-number.invariant
 
 pub loop-number-preserved-then-not-accepts : goal.loop-number-preserved-then-not-accepts
@@ -30,7 +29,7 @@ victims_for-requires-clause-few g c = (c.requires.shelves.each c.loop-number.num
     (let same = ap (λ (x : ClusterRecord). length x.machines) c.cluster-cluster.ensures.cluster in let a = c.loop-number-test.true in let b = c.machines-number-end.ensures.number in let l = c.requires.shelves.long in omega (arith, a, b, same, l)) c.index-shelves-number.is)).few
 
 pub victims_for-requires-clause-small : goal.victims_for-requires-clause-small
-victims_for-requires-clause-small g c = λ k d lt. (at_index _ c.index-shelves-number.result.entries.items k d lt (c.requires.shelves.each c.loop-number.number c.index-shelves-number.result (shelf_at c.args.shelves.now c.loop-number.number c.index-shelves-number.result
+victims_for-requires-clause-small g c = λ k d lt. (at_index _ c.index-shelves-number.result.entries.now k d lt (c.requires.shelves.each c.loop-number.number c.index-shelves-number.result (shelf_at c.args.shelves.now c.loop-number.number c.index-shelves-number.result
     (let same = ap (λ (x : ClusterRecord). length x.machines) c.cluster-cluster.ensures.cluster in let a = c.loop-number-test.true in let b = c.machines-number-end.ensures.number in let l = c.requires.shelves.long in omega (arith, a, b, same, l)) c.index-shelves-number.is)).each).small
 
 pub returns-in-Some : goal.returns-in-Some

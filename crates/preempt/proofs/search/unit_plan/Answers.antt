@@ -3,7 +3,6 @@ use Rattle.preempt.specs.Given.{pair_of}
 use Rattle.preempt.specs.MachineRooms.{AreRoomsFor}
 use Rattle.preempt.proofs.MachineRoomsLemmas.{all_beyond, place_is, rooms_for}
 use Rattle.preempt.proofs.Served.{none_found, wide_found}
-use Rattle.preempt.proofs.ShelvesLemmas.{resources_few}
 use Rattle.preempt.proofs.search.unit_plan.Goals as goal
 
 pub returns-in-None-clause-found : goal.returns-in-None-clause-found
@@ -16,7 +15,7 @@ returns-then-not-is_within-clause-found g c =
     let rooms = c.index-rooms.result.now in
     let is = place_is t n c.rooms_at.new.kinds.items c.in_ok-at.at rooms c.in_ok-at.ensures.place c.in_ok-at.ensures.rooms c.index-rooms.ensures in
     none_found t (g.P.Asking.usable c.args.placer.now) (pair_of c.args.e.now)
-    (all_beyond t c.args.e.now c.requires.entry n c.in-Some.ensures rooms is.0 (rooms_for t n rooms is.0 is.1) (resources_few t.cluster c.cluster-cluster.ensures.sound.valid) (sym c.is_within.ensures ∙ c.if-not-is_within.true))
+    (all_beyond t c.args.e.now c.requires.entry n c.in-Some.ensures rooms is.0 (rooms_for t n rooms is.0 is.1) (sym c.is_within.ensures ∙ c.if-not-is_within.true))
 
 pub first_machine-requires-clause-rooms : goal.first_machine-requires-clause-rooms
 first_machine-requires-clause-rooms g c =

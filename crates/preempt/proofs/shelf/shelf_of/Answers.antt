@@ -1,9 +1,8 @@
-use Rattle.std.proofs.Common.{◌≡◌, ℕ, get_or, length, sym, ◌∙◌, ap, subst, arith}
+use Rattle.std.proofs.Common.{◌≡◌, ℕ, get_or, sym, ◌∙◌, ap, subst, arith}
 use Rattle.std.specs.List.{AllByRecursion}
 use Rattle.fuxi_terms.specs.Cluster.{ClusterRecord, has_at}
 use Rattle.fuxi_terms.proofs.ByPlace.{at_place-get_or}
-use Rattle.preempt.specs.Given.{AreSpared, IsEntry}
-use Rattle.preempt.specs.Shelves.{IsLow, IsLoose}
+use Rattle.preempt.specs.Shelves.{IsLoose}
 use Rattle.preempt.proofs.ShelvesLemmas.{has_is, resources_few}
 use Rattle.preempt.proofs.shelf.shelf_of.Goals as goal
 
@@ -17,11 +16,11 @@ returns-clause-shelf g c =
     let count : c.resources-resources.result ≡ t.cluster.resources = c.resources-resources.ensures.number ∙ ap (λ (x : ClusterRecord). x.resources) same in
     let has : (i : ℕ) → get_or c.machine.result.now.has.q i 0 ≡ has_at t.cluster m i = λ i. has_is c.cluster-cluster.result.now.machines m c.machine.result.now c.machine.ensures i ∙ ap (λ (x : ClusterRecord). has_at x m i) same in
     record {
-      walk = c.in_ok-entries.ensures.entries ∙ c.requires.holders.lists m;
-      each = c.in_ok-entries.ensures.each;
-      few = let a = c.in_ok-entries.ensures.few in let b = c.requires.holders.few in omega (arith, a, b);
-      spared = subst (λ es. AreSpared t m es c.in_ok-spared.spared.items) c.deref-3.ensures.value (c.in_ok-spared.ensures.spared t m (subst (AllByRecursion (IsEntry t)) (sym c.deref-3.ensures.value) c.in_ok-entries.ensures.each) c.requires.groups count);
-      few_spared = let l = c.in_ok-spared.ensures.few in let d = ap length c.deref-3.ensures.value in let a = c.in_ok-entries.ensures.few in let b = c.requires.holders.few in omega (arith, l, d, a, b);
+      walk = c.requires.entries.walk;
+      each = c.requires.entries.each;
+      few = c.requires.entries.few;
+      spared = c.in_ok-spared.ensures.spared t m c.requires.entries.each c.requires.groups count;
+      few_spared = let l = c.in_ok-spared.ensures.few in let a = c.requires.entries.few in omega (arith, l, a);
       has = λ i lt. has i;
       used = λ i lt.
           let u = c.used_of.ensures i (omega (arith, lt, eight)) in
@@ -29,9 +28,6 @@ returns-clause-shelf g c =
           let f = sym (at_place-get_or c.free-free.result.q i) ∙ c.free-free.ensures.free i in
           let w = c.free-free.ensures.fits i in
           omega (arith, u, h, f, w);
-      low = subst (AllByRecursion (IsLow c.lowest_of-lowest.result)) c.deref.ensures.value c.lowest_of-lowest.ensures;
-      loose_are = subst (λ n. AllByRecursion (IsLoose n c.args.groups.now c.loose_of-loose.result) c.in_ok-entries.entries.items) count (subst (AllByRecursion (IsLoose c.resources-resources.result c.args.groups.now c.loose_of-loose.result)) c.deref-2.ensures.value c.loose_of-loose.ensures);
+      low = c.lowest_of-lowest.ensures;
+      loose_are = subst (λ n. AllByRecursion (IsLoose n c.args.groups.now c.loose_of-loose.result) c.args.entries.now) count c.loose_of-loose.ensures;
     }
-
-pub spared_of-requires-clause-loose : goal.spared_of-requires-clause-loose
-spared_of-requires-clause-loose g c = subst (AllByRecursion (IsLoose c.resources-resources.result c.args.groups.now c.loose_of-loose.result)) (c.deref-2.ensures.value ∙ sym c.deref-3.ensures.value) c.loose_of-loose.ensures

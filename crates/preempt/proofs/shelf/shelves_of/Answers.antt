@@ -6,7 +6,6 @@ use Rattle.preempt.proofs.shelf.shelves_of.Goals as goal
 
 pub loop-number-preserved : goal.loop-number-preserved
 loop-number-preserved g c =
-    let n = c.loop-number.number in
     let pushed : c.push.new.self.items ≡ c.loop-number.shelves.items ++ c.in_ok-shelf_of.field-0 ∷ [] = c.in_ok-push.ensures.items in
     let long = c.loop-number.invariant.long in
     record {

@@ -1,32 +1,28 @@
-use Rattle.std.proofs.Common.{◌≡◌, true, false, cond, filter, [], ◌∷◌, ◌++◌, get_or, take, sym, ◌∙◌, ap, arith}
-use Rattle.std.specs.Global.{Vec}
-use Rattle.std.proofs.lemmas.Bool.Decides.{nat_tests}
-use Rattle.std.proofs.lemmas.List.{append-nil}
-use Rattle.preempt.specs.declared.entry.Entry.{Entry}
-use Rattle.preempt.specs.Walks.{holds_some}
-use Rattle.preempt.proofs.Served.{no_entry}
-use Rattle.preempt.proofs.UnitSteps.{filter_more}
+use Rattle.std.proofs.Common.{◌<◌, ◌≤◌, [], ◌++◌, filter, length, get_or, sym, ◌∙◌, ap, arith}
+use Rattle.std.proofs.lemmas.List.{take_all}
+use Rattle.std.proofs.lemmas.Option.{slice_get-get_or}
+use Rattle.fuxi_terms.specs.Cluster.{JobRecord}
+use Rattle.preempt.specs.Walks.{all_units, holds_some, units_in}
+use Rattle.preempt.proofs.UnitSteps.{holders_ordered, passed_units}
 use Rattle.preempt.proofs.walk.holders_of.Goals as goal
-use Rattle.preempt.proofs.walk.holders_of.Goals.{then-held-gt0+in_ok-push, else-held-gt0}
 
-pub loop-e-preserved : goal.loop-e-preserved
-loop-e-preserved c =
-    let units = c.args.units.now in
-    let k = c.loop-e.e-index in
-    let test = holds_some c.args.table.now.entries in
-    let e = get_or units k no_entry in
-    let before = filter test (take k units) in
-    let n = c.held.ensures in
-    let step = filter_more test units k no_entry c.loop-e-test.true in
-    elim c.if-held-gt0.branch [
-      | then-held-gt0+in_ok-push w ↦
-          let is = w.if-held-gt0.true in
-          let t : holds_some c.args.table.now.entries e ≡ true = grind (arith, nat_tests, is, n) in
-          ap (λ (xs : Vec Entry). xs.items) w.holders-is ∙ w.in_ok-push.ensures.items ∙ ap (λ xs. xs ++ e ∷ []) c.loop-e.invariant
-          ∙ ap (λ b. before ++ cond b (e ∷ []) []) (sym t) ∙ sym step
-      | else-held-gt0 w ↦
-          let is = w.if-held-gt0.false in
-          let f : holds_some c.args.table.now.entries e ≡ false = grind (arith, nat_tests, is, n) in
-          ap (λ (xs : Vec Entry). xs.items) w.holders-is ∙ c.loop-e.invariant
-          ∙ sym (append-nil before) ∙ ap (λ b. before ++ cond b (e ∷ []) []) (sym f) ∙ sym step
-    ]
+pub loop-index-preserved : goal.loop-index-preserved
+loop-index-preserved c =
+    let t = c.args.table.now in
+    let test = holds_some t.entries in
+    let k = c.loop-index.index in
+    let no_record : JobRecord = record { number = 0; group = 0; units = [] } in
+    let j = get_or t.jobs k no_record in
+    let inside : k < length t.jobs = let a = c.loop-index-test.true in let b = c.jobs-index-end.ensures in omega (arith, a, b) in
+    let at = slice_get-get_or t.jobs k no_record inside in
+    record {
+      pairs = c.in_ok-push_holders.ensures.pairs j at ∙ ap (λ ps. ps ++ filter test (units_in j (length j.units))) c.loop-index.invariant.pairs ∙ sym (passed_units test t.jobs k j at);
+      entries = c.in_ok-push_holders.ensures.entries c.loop-index.invariant.entries;
+    }
+
+pub returns-clause-holders : goal.returns-clause-holders
+returns-clause-holders c =
+    let t = c.args.table.now in
+    let past : length t.jobs ≤ c.loop-index.index = let a = c.loop-index-test.false in let b = c.jobs-index-end.ensures in omega (arith, a, b) in
+    holders_ordered t c.cluster-cluster.ensures.sound c.loop-index.holders.items
+    (c.loop-index.invariant.pairs ∙ ap (λ js. filter (holds_some t.entries) (all_units js)) (take_all c.loop-index.index t.jobs past)) c.loop-index.invariant.entries
