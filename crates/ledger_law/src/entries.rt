@@ -22,12 +22,24 @@ impl EntryKey for Key {
     ghost exact = { same_key };
 }
 
-// Where the key stands, or where it would.
-fn place_of<K: EntryKey>(entries: &[(K, u64)], key: &K) -> Result<usize, usize>
+/// Where the key stands, or, as an error, where it would.
+pub fn place_of<K: EntryKey>(entries: &[(K, u64)], key: &K) -> Result<usize, usize>
     requires { T (is_sorted K.cmp entries.now) }
     ensures { IsPlace K.cmp entries.now key.now result }
 {
     entries.binary_search_by(|entry| entry.0.cmp(key))
+}
+
+/// The number at the place of a key, and 0 where it has no entry.
+pub fn count_at<K: EntryKey>(entries: &[(K, u64)], key: &K, place: Result<usize, usize>) -> u64
+    requires sorted { T (is_sorted K.cmp entries.now) }
+    requires place { IsPlace K.cmp entries.now key.now place }
+    ensures { result ≡ count K.cmp entries.now key.now }
+{
+    match place {
+        Ok(at) => entries[at].1,
+        Err(_) => 0,
+    }
 }
 
 /// The number at a key, and 0 where it has no entry.
@@ -35,10 +47,7 @@ pub fn count_of<K: EntryKey>(entries: &[(K, u64)], key: &K) -> u64
     requires { T (is_sorted K.cmp entries.now) }
     ensures { result ≡ count K.cmp entries.now key.now }
 {
-    match place_of(entries, key) {
-        Ok(at) => entries[at].1,
-        Err(_) => 0,
-    }
+    count_at(entries, key, place_of(entries, key))
 }
 
 /// A number moved by a change, where it stays at least 0.
@@ -53,15 +62,21 @@ pub fn moved(n: u64, change: i64) -> Option<u64>
     }
 }
 
-/// Sets the number at a key. A number 0 has no entry. It takes no memory.
-pub fn set_entry<K: EntryKey>(entries: &mut Vec<(K, u64)>, key: K, n: u64)
+/// Sets the number at a key, whose place is known. A number 0 has no entry. It takes no memory.
+pub fn set_entry<K: EntryKey>(
+    entries: &mut Vec<(K, u64)>,
+    place: Result<usize, usize>,
+    key: K,
+    n: u64,
+)
+    requires place { IsPlace K.cmp entries.old.items key place }
     requires sorted { T (is_sorted K.cmp entries.old.items) }
     requires room { vec_len entries.old < vec_capacity entries.old }
     ensures items { entries.new.items ≡ set_count K.cmp entries.old.items key n }
     ensures len { vec_len entries.new ≤ vec_len entries.old + 1 }
     ensures capacity { vec_capacity entries.old ≤ vec_capacity entries.new }
 {
-    match place_of(entries, &key) {
+    match place {
         Ok(at) => {
             if n == 0 {
                 entries.remove(at);

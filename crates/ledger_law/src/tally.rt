@@ -9,7 +9,7 @@ ghost use Rattle.fuxi_terms.specs.declared.answers.LedgerFault.TheVariants.{Belo
 ghost use Rattle.ledger_law.specs.Applying.{Applies, IsRefusal};
 ghost use Rattle.ledger_law.specs.Shapes.{kept_under, AreChangesWithin, IsChange};
 
-use crate::entries::{count_of, keys_rise, moved, set_entry};
+use crate::entries::{count_at, count_of, keys_rise, moved, place_of, set_entry};
 use crate::forms::{Changes, Numbers, read_headed, write_headed};
 use crate::ledger::{BodyFault, Key, Ledger, LedgerFault, OutOfMemory};
 use std::alloc::Global;
@@ -222,9 +222,10 @@ fn make_change<S: Shape>(entries: &mut Vec<(Key, u64)>, key: Key, change: i64)
     ensures len { vec_len entries.new ≤ vec_len entries.old + 1 }
     ensures capacity { vec_capacity entries.old ≤ vec_capacity entries.new }
 {
-    let kept = count_of(entries, &key);
+    let place = place_of(entries, &key);
+    let kept = count_at(entries, &key, place);
     match moved(kept, change) {
-        Some(n) => set_entry(entries, key, n),
+        Some(n) => set_entry(entries, place, key, n),
         None => unreachable!(),
     }
 }

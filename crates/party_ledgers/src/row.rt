@@ -11,7 +11,7 @@ ghost use Rattle.ledger_law.specs.Applying.{IsRefusal};
 ghost use Rattle.fuxi_terms.specs.Rows.{IsRow, AreRowChanges, greatest_row, patched_row, change_row_once, row_below, row_too_great, fault_key};
 
 use fuxi_terms::limits::{GREATEST_COUNT, GREATEST_QUANTITY, MOST_ENTRIES, MOST_JOBS, MOST_UNITS};
-use ledger_law::entries::{EntryKey, count_of, moved, set_entry};
+use ledger_law::entries::{EntryKey, count_at, count_of, moved, place_of, set_entry};
 use ledger_law::{Key, LedgerFault, OutOfMemory};
 use res_vector::Res;
 use schedule_unit::{AppNo, UnitNo};
@@ -146,9 +146,10 @@ fn make_change(entries: &mut Vec<(RowKey, u64)>, key: RowKey, change: i64)
     ensures len { vec_len entries.new ≤ vec_len entries.old + 1 }
     ensures capacity { vec_capacity entries.old ≤ vec_capacity entries.new }
 {
-    let kept = count_of(entries, &key);
+    let place = place_of(entries, &key);
+    let kept = count_at(entries, &key, place);
     match moved(kept, change) {
-        Some(n) => set_entry(entries, key, n),
+        Some(n) => set_entry(entries, place, key, n),
         None => unreachable!(),
     }
 }

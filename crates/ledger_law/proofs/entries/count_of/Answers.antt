@@ -1,9 +1,0 @@
-use Rattle.std.proofs.Common.{sym}
-use Rattle.ledger_law.proofs.PlacesLemmas.{count_here, count_gap}
-use Rattle.ledger_law.proofs.entries.count_of.Goals as goal
-
-pub returns-in-Ok : goal.returns-in-Ok
-returns-in-Ok g c = sym (count_here g.met.K.Ord.total c.args.key.now c.args.entries.now c.in-Ok.at _ c.requires c.in-Ok.ensures)
-
-pub returns-in-Err : goal.returns-in-Err
-returns-in-Err g c = sym (count_gap g.met.K.Ord.total c.args.key.now c.args.entries.now c.in-Err.field-0 c.requires c.in-Err.ensures)
