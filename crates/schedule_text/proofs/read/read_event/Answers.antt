@@ -4,4 +4,4 @@ use Rattle.schedule_text.proofs.Given.{given}
 use Rattle.schedule_text.proofs.read.read_event.Goals as goal
 
 pub returns-in-Ok-clause-line : goal.returns-in-Ok-clause-line
-returns-in-Ok-clause-line c = line_anywhere c.in-Ok.event (given c.args.line.now (anywhere c.in-Ok.event) (rw (c.as_slice.ensures.value, c.in_ok-words.ensures) at c.in-Ok.ensures.ok))
+returns-in-Ok-clause-line c = line_anywhere c.in-Ok.event (given c.args.line.now (anywhere c.in-Ok.event) c.in-Ok.ensures.ok)
