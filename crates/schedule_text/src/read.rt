@@ -27,10 +27,7 @@ pub fn read_event(alloc: Global, line: &[u8]) -> Result<Event, LineFault>
     ensures line { IfOk result IsLineEvent }
     ensures fault { IfErr result (IsFault (event_of line.now)) }
 {
-    match event_of(alloc, line) {
-        Ok(event) => Ok(event),
-        Err(fault) => Err(fault),
-    }
+    event_of(alloc, line)
 }
 
 // The same. The words of a line that has few of them want no memory.
