@@ -7,3 +7,4 @@ pub mod Given
 pub mod JobTests
 pub mod Anywhere
 pub mod Halts
+pub mod WordsLemmas

@@ -1,7 +1,8 @@
 -- What is split, tested and joined in pairs may as well be read first.
-use Rattle.std.proofs.Common.{◌≡◌, ℕ, suc, ◌+◌, arith, Bool, true, false, cond, ◌&&◌, List, [], ◌∷◌, map, length, refl, ap, sym, ◌∙◌}
+use Rattle.std.proofs.Common.{◌≡◌, ℕ, suc, ◌+◌, arith, Bool, true, false, cond, nat_eq, ◌&&◌, List, [], ◌∷◌, map, length, refl, ap, sym, ◌∙◌}
 use Rattle.std.proofs.lemmas.List.Sums.{sum_by-cons}
 use Rattle.std.specs.List.{list_all, sum_by, zip, slice_split, onto_first}
+use Rattle.std.specs.Str.{bytes_eq}
 
 onto_mapped : {A B : Type 0} (f : A → B) (x : A) (parts : List (List A)) → onto_first (f x) (map (map f) parts) ≡ map (map f) (onto_first x parts)
 onto_mapped f x [] = refl
@@ -23,6 +24,13 @@ pub pairs_mapped : {A B C : Type 0} (test : C × C → Bool) (f : A → C) (g : 
 pairs_mapped test f g [] ys = refl
 pairs_mapped test f g (x ∷ xs) [] = refl
 pairs_mapped test f g (x ∷ xs) (y ∷ ys) = ap (λ b. test (f x, g y) && b) (pairs_mapped test f g xs ys)
+
+-- what is the same byte by byte, and as long, is the same
+pub bytes_paired : (xs ys : List ℕ) → length xs ≡ length ys → list_all (λ p. nat_eq p.0 p.1) (zip xs ys) ≡ bytes_eq xs ys
+bytes_paired [] [] e = refl
+bytes_paired [] (y ∷ ys) e = cc
+bytes_paired (x ∷ xs) [] e = cc
+bytes_paired (x ∷ xs) (y ∷ ys) e = ap (λ b. nat_eq x y && b) (bytes_paired xs ys (omega (arith, e)))
 
 pub map_twice : {A B C : Type 0} (f : A → B) (g : B → C) (xs : List A) → map (λ x. g (f x)) xs ≡ map g (map f xs)
 map_twice f g [] = refl

@@ -1,6 +1,6 @@
 //! First words and numbers of a line, in whatever text it stands.
 
-ghost use Rattle.std.specs.Prelude.{◌≡◌, ℕ, ◌+◌, ◌^◌, ◌<◌, ◌≤◌, IfOk, IfErr, Ok, Err, map, length, take, slice_index, get_or};
+ghost use Rattle.std.specs.Prelude.{◌≡◌, ℕ, ◌+◌, ◌^◌, ◌<◌, ◌≤◌, IfOk, IfErr, Ok, Err, map, length, take, slice_index, get_or, nat_eq};
 ghost use Rattle.std.specs.List.{list_all, zip};
 ghost use Rattle.std.specs.Str.{bytes_eq};
 ghost use Rattle.schedule_text.specs.PlaceNumbers.{number_at, numbers_at};
@@ -31,7 +31,21 @@ pub trait NumberPlace: Copy {
 pub fn begins_with(first: &[&[u8]], words: &[&[u8]]) -> bool
     ensures { result ≡ list_all (λ p. bytes_eq p.0 p.1) (zip (map (λ w. w.now) first.now) (map (λ w. w.now) words.now)) }
 {
-    first.iter().zip(words).all(|(a, b)| *a == *b)
+    first.iter().zip(words).all(|(a, b)| is_same(a, b))
+}
+
+// Whether two words are the same. They are short, so one walk is cheaper than a search for a difference in blocks.
+fn is_same(a: &[u8], b: &[u8]) -> bool
+    ensures { result ≡ bytes_eq a.now b.now }
+{
+    a.len() == b.len() && are_paired(a, b)
+}
+
+// Whether the bytes are the same as far as both have any.
+fn are_paired(a: &[u8], b: &[u8]) -> bool
+    ensures { result ≡ list_all (λ p. nat_eq p.0 p.1) (zip a.now b.now) }
+{
+    a.iter().zip(b).all(|(x, y)| *x == *y)
 }
 
 /// The number at a place of the line, with the number before it.

@@ -12,7 +12,7 @@ use crate::form::{Form, HEADS, Head, Place, WRITING_HEADS, form_of, halt_form, h
 use crate::head::{LineHead, head_of};
 use crate::make::make_event;
 use crate::number::{begins_with, number_at, numbers_at};
-use crate::word::words_of;
+use crate::word::{few_words, words_of};
 use fuxi_terms::OutOfMemory;
 use fuxi_terms::limits::GREATEST_COUNT;
 use schedule_unit::{Ask, Asks, Quantities};
@@ -27,11 +27,21 @@ pub fn read_event(alloc: Global, line: &[u8]) -> Result<Event, LineFault>
     ensures line { IfOk result IsLineEvent }
     ensures fault { IfErr result (IsFault (event_of line.now)) }
 {
-    let words = words_of(alloc, line)?;
-    match event_in(alloc, words.as_slice()) {
-        Ok(event) => Ok(event),
-        Err(fault) => Err(fault),
+    event_of(alloc, line)
+}
+
+// The same. The words of a line that has few of them want no memory.
+fn event_of(alloc: Global, line: &[u8]) -> Result<Event, LineFault>
+    ensures ok { IfOk result (λ event. event_of line.now ≡ Ok (anywhere event)) }
+    ensures fault { IfErr result (IsFault (event_of line.now)) }
+{
+    let mut few: [&[u8]; 8] = [&[]; 8];
+    if let Some(count) = few_words(line, &mut few) {
+        let (words, _) = few.as_slice().split_at(count);
+        return event_in(alloc, words);
     }
+    let words = words_of(alloc, line)?;
+    event_in(alloc, words.as_slice())
 }
 
 // The event of the words of a line.

@@ -1,7 +1,8 @@
+use Rattle.std.proofs.lemmas.Result.{IfOk-weaker}
 use Rattle.schedule_text.specs.Halting.{anywhere}
 use Rattle.schedule_text.proofs.Anywhere.{line_anywhere}
 use Rattle.schedule_text.proofs.Given.{given}
 use Rattle.schedule_text.proofs.read.read_event.Goals as goal
 
-pub returns-in-Ok-clause-line : goal.returns-in-Ok-clause-line
-returns-in-Ok-clause-line c = line_anywhere c.in-Ok.event (given c.args.line.now (anywhere c.in-Ok.event) (rw (c.as_slice.ensures.value, c.in_ok-words.ensures) at c.in-Ok.ensures.ok))
+pub returns-clause-line : goal.returns-clause-line
+returns-clause-line c = IfOk-weaker c.event_of.result _ _ (λ event is. line_anywhere event (given c.args.line.now (anywhere event) is)) c.event_of.ensures.ok
