@@ -51,8 +51,9 @@ fn is_begun<H: LineHead>(heads: &[H], words: &[&[u8]]) -> bool
     heads.iter().any(|head| head.is_begun(words))
 }
 
+// The words are counted first, since lines that begin alike mostly differ in their count.
 fn is_head<H: LineHead>(head: H, words: &[&[u8]]) -> bool
     ensures { result ≡ is_head H.begun H.counted (map (λ w. w.now) words.now) head }
 {
-    head.is_begun(words) && head.is_counted(words)
+    head.is_counted(words) && head.is_begun(words)
 }
