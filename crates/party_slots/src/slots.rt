@@ -110,12 +110,13 @@ impl<P: Party> Slots<P> {
         let Some(party) = slot.0.take() else {
             return Ok(None);
         };
-        let (party, answer) = match deed(party) {
-            Ok(both) => both,
-            Err(fault) => return Err(fault),
-        };
-        slot.0 = Some(party);
-        Ok(Some(answer))
+        match deed(party) {
+            Ok((party, answer)) => {
+                slot.0 = Some(party);
+                Ok(Some(answer))
+            }
+            Err(fault) => Err(fault),
+        }
     }
 
     // The party of a number, taken out of its slot until it is put back; `None` where none runs.
