@@ -42,7 +42,7 @@ less_second v w r (y ∷ ys) le e = elim (cases_lt y w) [
 ]
 
 -- a bound of a rank is one of the rank with a later level
-bound_worse : (bound : Option (List ℕ)) (l v w t : ℕ) → v ≤ w → is_bound bound (l ∷ v ∷ t ∷ []) ≡ true → is_bound bound (l ∷ w ∷ t ∷ []) ≡ true
+pub bound_worse : (bound : Option (List ℕ)) (l v w t : ℕ) → v ≤ w → is_bound bound (l ∷ v ∷ t ∷ []) ≡ true → is_bound bound (l ∷ w ∷ t ∷ []) ≡ true
 bound_worse None l v w t le e = e
 bound_worse (Some b) l v w t le e = same_first l (v ∷ t ∷ []) (w ∷ t ∷ []) b (λ c. less_second v w (t ∷ []) c le) e
 

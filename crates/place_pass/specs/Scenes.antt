@@ -1,14 +1,15 @@
 -- What a search reads, when it may run, and what it says of one machine.
-use Rattle.std.specs.Prelude.{◌≡◌, ◌≢◌, ℕ, ◌<◌, ◌≤◌, Bool, true, false, List, length, Option, None, IfSome}
+use Rattle.std.specs.Prelude.{◌≡◌, ◌≢◌, ℕ, ◌<◌, ◌≤◌, Bool, true, false, List, length, Option, None, Some, IfSome}
 use Rattle.std.proofs.Common.{get_or}
 use Rattle.fuxi_terms.specs.Keys.{Pair}
 use Rattle.written_roles.specs.Masters.{out_of}
 use Rattle.written_roles.specs.Placing.{Board, has_pair}
+use Rattle.place_pass.specs.declared.recent.Recent.{Recent}
 use Rattle.place_pass.specs.declared.search.Found.{Found}
 use Rattle.place_pass.specs.declared.search.Scene.{Scene}
 use Rattle.place_pass.specs.declared.search.Sight.{Sight}
 use Rattle.place_pass.specs.Best.{AreAdmitted}
-use Rattle.place_pass.specs.Bounds.{MarkRecord, mark_at, key_of, Rises, IsBounded}
+use Rattle.place_pass.specs.Bounds.{MarkRecord, mark_at, key_of, rank_of, rank_at, is_bound, Rises, IsBounded}
 use Rattle.place_pass.specs.Cells.{asks_in, job_at, unit_places}
 use Rattle.place_pass.specs.Placers.{AreLevel, board_over}
 use Rattle.place_pass.specs.Sights.{sight_rank, found_rank, turn_in, IsSight, IsFound, IsLeast, AreBounded}
@@ -51,3 +52,7 @@ IsFoundIn s x = IsFound (board_in s) s.table.now.entries (turn_in s.turn_of.now)
 
 abbrev pub IsLeastOn : Scene → Option Found → ℕ → Type 0
 IsLeastOn s best m = IsLeast (board_in s) s.table.now.entries (turn_in s.turn_of.now) s.line.now.pairs (found_rank best) m
+
+-- no pair of the line with a turn from a number on comes before a rank on any machine
+pub record AreSince (s : Scene) (x : Recent) : Type 0 where
+  pub bounded : (q : Pair) (m : ℕ) → has_pair q s.line.now.pairs ≡ true → x.since ≤ turn_in s.turn_of.now q → is_bound (Some (rank_of x.rank)) (rank_at (board_in s) s.table.now.entries (turn_in s.turn_of.now q) q m) ≡ true

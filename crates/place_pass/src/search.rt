@@ -20,11 +20,12 @@ ghost use Rattle.place_pass.specs.SearchCounts.{is_unsettled_by, count_below};
 ghost use Rattle.place_pass.specs.PlacerTrees.{TreeOf};
 ghost use Rattle.place_pass.specs.PackedRanks.{packed, IsAbove};
 ghost use Rattle.place_pass.specs.Sights.{IsBehind, AreBehind, ArePassed, limit_in, number_in, sight_rank, rank_with, found_rank, turn_in, IsFree, IsSight, AreBounded, is_first};
-ghost use Rattle.place_pass.specs.Scenes.{board_in, CanSearch, IsBestOn, IsMarked, IsSettledBy, AreMarked, IsFoundIn, IsLeastOn};
+ghost use Rattle.place_pass.specs.Scenes.{board_in, CanSearch, IsBestOn, IsMarked, IsSettledBy, AreMarked, IsFoundIn, IsLeastOn, AreSince};
 
 use crate::keys::{number_of, number_of_none};
 use crate::line::Line;
 use crate::marks::{Mark, Marks, Rank};
+use crate::recent::{Recent, recent_pairs};
 use crate::wishes::Wishes;
 use cluster_desc::{Cluster, Group};
 use grant_table::{GrantTable, Pick, Steps};
@@ -230,8 +231,8 @@ fn is_earlier(rank: &Rank, machine: MachineNo, found: &Found) -> bool
     comes_first(rank.late as u64, other.late as u64, by_level)
 }
 
-// Whether a rank on one machine comes before another there.
-fn is_earlier_here(rank: &Rank, other: &Rank) -> bool
+/// Whether a rank on one machine comes before another there.
+pub(crate) fn is_earlier_here(rank: &Rank, other: &Rank) -> bool
     ensures { result ≡ comes_before (rank_of rank.now) (rank_of other.now) }
 {
     let by_turn = comes_first(rank.turn, other.turn, false);
@@ -613,6 +614,62 @@ fn consider_at<L: Ledger>(
     marks.consider(scene, machine, steps, best);
 }
 
+// Whether on a machine neither a pair that was looked at comes before the best so far nor one that was appended since.
+fn is_behind(
+    scene: &Scene<'_>,
+    recent: &Recent,
+    machine: MachineNo,
+    mark: &Mark,
+    best: &Option<Found>,
+) -> bool
+    requires ready { CanSearch scene.now }
+    requires recent { AreSince scene.now recent.now }
+    requires old { IsMarked scene.now machine.0 (mark_of mark.now) }
+    ensures least { result ≡ true → IsLeastOn scene.now best.now machine.0 }
+    ensures some { result ≡ true → is_none best.now ≡ false }
+{
+    if mark.until < recent.since {
+        return false;
+    }
+    if may_be_first(best, &recent.rank, machine) {
+        return false;
+    }
+    let Some(bound) = mark.bound else {
+        return true;
+    };
+    !may_be_first(best, &bound, machine)
+}
+
+// The same of a machine beside the first, by what is known of the pairs that were appended lately.
+fn consider_other<L: Ledger>(
+    scene: &Scene<'_>,
+    recent: &Recent,
+    machine: MachineNo,
+    marks: &mut Marks,
+    steps: &mut Steps<L>,
+    best: &mut Option<Found>,
+)
+    requires ready { CanSearch scene.now }
+    requires recent { AreSince scene.now recent.now }
+    requires machine { machine.0 < length scene.now.table.now.cluster.machines }
+    requires marked { length marks.old ≡ length scene.now.table.now.cluster.machines }
+    requires old { AreMarked scene.now marks.old }
+    ensures marked { length marks.new ≡ length marks.old }
+    ensures marks { AreMarked scene.now marks.new }
+    ensures least { IsLeastOn scene.now best.new machine.0 }
+    ensures kept { (r : List ℕ) → is_bound (found_rank best.old) r ≡ true → is_bound (found_rank best.new) r ≡ true }
+    ensures found { IfSome best.old (λ x. IsFoundIn scene.now x) → IfSome best.new (λ x. IsFoundIn scene.now x) }
+    ensures others { (m : ℕ) → nat_eq machine.0 m ≡ false → mark_at marks.new m ≡ mark_at marks.old m }
+    ensures count { steps.new ≤ steps.old + cond (is_unsettled_by scene.now.wishes.now.opened (mark_at marks.old machine.0) scene.now.turns machine.0) 1 0 }
+    ensures settled { best.new ≡ None → IsSettledBy scene.now machine.0 (mark_at marks.new machine.0) }
+    ensures empty { best.new ≡ None → best.old ≡ None }
+{
+    if is_behind(scene, recent, machine, marks.at(machine.0), best) {
+        return;
+    }
+    consider_at(scene, machine, marks, steps, best);
+}
+
 // The number of the best so far.
 fn number_of_best(best: &Option<Found>) -> u128
     ensures { result ≡ limit_in best.now }
@@ -726,8 +783,12 @@ fn best_of_others<L: Ledger>(
     ensures settled { best.new ≡ None → (m : ℕ) → m < length scene.now.table.now.cluster.machines → IsSettledBy scene.now m (mark_at marks.new m) }
 {
     let mut at = next_other(marks, start, 0, scene.turns, best);
+    if at >= marks.len() {
+        return;
+    }
+    let recent = recent_pairs(scene);
     while at < marks.len() {
-        consider_at(scene, MachineNo(at), marks, steps, best);
+        consider_other(scene, &recent, MachineNo(at), marks, steps, best);
         at = next_other(marks, start, at + 1, scene.turns, best);
     }
 }

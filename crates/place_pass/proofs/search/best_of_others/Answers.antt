@@ -10,6 +10,15 @@ use Rattle.place_pass.proofs.PassedMachines.{is_other, passed_least, passed_sett
 use Rattle.place_pass.proofs.SearchCountsLemmas.{count_more}
 use Rattle.place_pass.proofs.search.best_of_others.Goals as goal
 
+pub returns-then-at-len-clause-least : goal.returns-then-at-len-clause-least
+returns-then-at-len-clause-least g c m lt =
+    let inside = c.next_other-at.ensures.inside in
+    let all = c.next_other-at.ensures.few in
+    let number = c.len.ensures.number in
+    let end = c.if-at-len.true in
+    let marked = c.requires.marked in
+    passed_least c.args.scene.now c.args.start.0 0 c.next_other-at.result c.args.marks.now c.args.best.now c.requires.old (omega (arith, inside, all)) c.next_other-at.ensures.passed c.requires.ready c.requires.seen (λ n less. absurd (omega (arith, less))) m (omega (arith, lt, number, end, marked))
+
 pub loop-at-init : goal.loop-at-init
 loop-at-init g c =
     let s = c.args.scene.now in
@@ -41,9 +50,9 @@ loop-at-preserved g c =
     let at = c.next_other-at-in-loop-at.result in
     let start = c.args.start.0 in
     let firsts = c.args.marks.now in
-    let marks = c.consider_at.new.marks in
-    let best = c.consider_at.new.best in
-    let looked = c.consider_at.ensures in
+    let marks = c.consider_other.new.marks in
+    let best = c.consider_other.new.best in
+    let looked = c.consider_other.ensures in
     let passed = c.next_other-at-in-loop-at.ensures.passed in
     let inside = c.next_other-at-in-loop-at.ensures.inside in
     let all = c.next_other-at-in-loop-at.ensures.few in
