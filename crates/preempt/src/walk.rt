@@ -147,7 +147,7 @@ pub(crate) fn listing_of(
 {
     let machines = table.cluster().machines();
     let counts = counts_of(alloc, table, holders)?;
-    let mut entries = Vec::new(alloc);
+    let mut entries = Vec::with_capacity(alloc, holders.len())?;
     let mut starts = Vec::with_capacity(alloc, machines as usize + 1)?;
     starts.push(0)?;
     for machine in 0..machines {
