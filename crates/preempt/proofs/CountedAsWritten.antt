@@ -1,5 +1,5 @@
 -- What the code counts is what the definitions count.
-use Rattle.std.proofs.Common.{◌≡◌, ◌≢◌, ◌^◌, set, length-append, get_or-set_same, get_or-set_other, ℕ, zero, suc, ◌+◌, ◌*◌, ◌<◌, ◌≤◌, Bool, true, false, cond, nat_eq, nat_lt, List, [], ◌∷◌, ◌++◌, map, length, get_or, drop, refl, sym, ◌∙◌, ap, subst, arith, min, max}
+use Rattle.std.proofs.Common.{◌≡◌, ◌^◌, set, length-append, ℕ, zero, suc, ◌+◌, ◌*◌, ◌<◌, ◌≤◌, Bool, true, false, cond, nat_eq, nat_lt, List, [], ◌∷◌, ◌++◌, map, length, get_or, drop, refl, sym, ◌∙◌, ap, subst, arith, min, max}
 use Rattle.std.specs.Prelude.{◌&&◌, slice_index, replicate}
 use Rattle.std.specs.List.{AllByRecursion, sum_by}
 use Rattle.std.proofs.lemmas.Bool.Decides.{nat_tests}
@@ -18,10 +18,9 @@ use Rattle.preempt.specs.declared.entry.Entry.{Entry}
 use Rattle.preempt.specs.declared.entry.Need.{Need}
 use Rattle.preempt.specs.declared.entry.GroupUse.{GroupUse}
 use Rattle.preempt.specs.declared.entry.Sums.{Sums}
-use Rattle.preempt.specs.declared.parts.Parts.{Parts}
 use Rattle.preempt.specs.Given.{board_of, no_group, written, IsEntry, IsNeed, IsGroup, AreGiven, recounted}
 use Rattle.preempt.specs.GrantNumbers.{needed_in_one, spared_in_one, total_in, part_in, needed_number, may_number}
-use Rattle.preempt.specs.GroupSums.{no_sums, taken_at, ArePartsOf}
+use Rattle.preempt.specs.GroupSums.{GroupParts, no_sums, taken_at, ArePartsOf}
 use Rattle.preempt.proofs.Sums.{sum_many}
 
 pub greatest_same : (n : ℕ) (f g : ℕ → ℕ) → ((i : ℕ) → i < n → f i ≡ g i) → greatest_of n f ≡ greatest_of n g
@@ -221,7 +220,7 @@ pub part_first : (g i k : ℕ) (d : Entry) (set : List Entry) → k < length set
 part_first g i k d set lt = at_drop_more (part_in g i) set k d lt ∙ sum_by-cons (λ (e : Entry). cond (nat_eq e.group g) e.count 0 * slice_index e.size i) (get_or set k d) (drop (k + 1) set)
 
 -- sums by group, with one entry more
-pub parts_more : (old new : Parts) (es : List Entry) (x : Entry) (part more : List ℕ) → ArePartsOf old es → x.group < 32
+pub parts_more : (old new : GroupParts) (es : List Entry) (x : Entry) (part more : List ℕ) → ArePartsOf old es → x.group < 32
     → ((i : ℕ) → i < 8 → slice_index part i ≡ taken_at old x.group i)
     → ((i : ℕ) → i < 8 → slice_index more i ≡ slice_index part i + x.count * slice_index x.size i)
     → ((i : ℕ) → i < 8 → slice_index more i ≤ slice_index part i + 2 ^ 96)
@@ -272,17 +271,3 @@ parts_start sums = record {
   where
     at : (g i : ℕ) → g < 32 → taken_at (record { begun = replicate 32 false; sums = sums }) g i ≡ 0
     at g i g_lt = ap (λ b. cond b (slice_index (get_or sums g no_sums).q i) 0) (get_or-replicate 32 g false false g_lt)
-
--- what is taken of a group, and of the others, once one is put
-pub part_put : (p : Parts) (g : ℕ) (q : List ℕ) → g < length p.begun → g < length p.sums
-    → (k i : ℕ) → k < 32 → taken_at (record { begun = set p.begun g true; sums = set p.sums g (record { q = q }) }) k i ≡ cond (nat_eq g k) (slice_index q i) (taken_at p k i)
-part_put p g q begun sums k i k_lt = by (nat_eq g k) refl
-  where
-    by : (b : Bool) → nat_eq g k ≡ b → taken_at (record { begun = set p.begun g true; sums = set p.sums g (record { q = q }) }) k i ≡ cond b (slice_index q i) (taken_at p k i)
-    by true e =
-        let same : g ≡ k = grind (arith, nat_tests) in
-        subst (λ j. taken_at (record { begun = set p.begun g true; sums = set p.sums g (record { q = q }) }) j i ≡ slice_index q i) same
-        (λ j. cond (get_or-set_same p.begun g true false begun j) (slice_index (get_or-set_same p.sums g (record { q = q }) no_sums sums j).q i) 0)
-    by false e =
-        let other : k ≢ g = λ s. let t : nat_eq g k ≡ true = grind (arith, nat_tests) in cc in
-        λ j. cond (get_or-set_other p.begun g k true false other j) (slice_index (get_or-set_other p.sums g k (record { q = q }) no_sums other j).q i) 0

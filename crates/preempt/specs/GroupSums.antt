@@ -1,20 +1,24 @@
 -- Sums by group.
-use Rattle.std.specs.Prelude.{◌≡◌, ℕ, ◌*◌, ◌^◌, ◌<◌, ◌≤◌, cond, false, List, [], length, get_or, slice_index}
+use Rattle.std.specs.Prelude.{◌≡◌, ℕ, ◌*◌, ◌^◌, ◌<◌, ◌≤◌, Bool, cond, false, List, [], length, get_or, slice_index}
 use Rattle.preempt.specs.declared.entry.Entry.{Entry}
 use Rattle.preempt.specs.declared.entry.Sums.{Sums}
-use Rattle.preempt.specs.declared.parts.Parts.{Parts}
 use Rattle.preempt.specs.declared.victims.Taken.{Taken}
 use Rattle.preempt.specs.GrantNumbers.{total_in, part_in}
 
 abbrev pub no_sums : Sums
 no_sums = record { q = [] }
 
+-- by group whether it has begun, and sums
+pub record GroupParts : Type 0 where
+  pub begun : List Bool
+  pub sums : List Sums
+
 -- what is taken of a group in one resource: nothing where it has not begun
-abbrev pub taken_at : Parts → ℕ → ℕ → ℕ
+abbrev pub taken_at : GroupParts → ℕ → ℕ → ℕ
 taken_at p g i = cond (get_or p.begun g false) (slice_index (get_or p.sums g no_sums).q i) 0
 
 -- for each group what a set takes of it
-pub record ArePartsOf (parts : Parts) (set : List Entry) : Type 0 where
+pub record ArePartsOf (parts : GroupParts) (set : List Entry) : Type 0 where
   pub is : (g i : ℕ) → g < 32 → i < 8 → taken_at parts g i ≡ part_in g i set
   pub small : (g i : ℕ) → g < 32 → i < 8 → taken_at parts g i ≤ length set * 2 ^ 96
 

@@ -1,6 +1,6 @@
 //! Whether any unit that waits may take any grant at all. It is asked before anything is kept of machines.
 
-ghost use Rattle.std.specs.Prelude.{◌≡◌, ◌<◌, false, List, map};
+ghost use Rattle.std.specs.Prelude.{◌≡◌, false, List, map};
 ghost use Rattle.std.specs.List.{AllByRecursion};
 ghost use Rattle.preempt.specs.declared.entry.Entry.{Entry};
 ghost use Rattle.preempt.specs.Given.{AreGroups, IsEntry, pair_of};

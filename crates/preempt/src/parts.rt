@@ -1,28 +1,43 @@
 //! By group what a set of grants takes, in a place that is lent to one set after another.
 
-ghost use Rattle.std.specs.Prelude.{◌≡◌, ℕ, ◌<◌, [], cond, nat_eq, slice_index};
-ghost use Rattle.preempt.specs.GroupSums.{ArePartsOf, taken_at};
-
 use crate::entry::Sums;
+use fuxi_terms::OutOfMemory;
+use std::alloc::Global;
+use std::marker::Model;
 
 /// By group what a set takes.
 #[derive(Drop)]
 pub(crate) struct Parts {
     /// Of a group that has not begun nothing is taken, whatever another set left there: so a new set costs no
     /// clearing of the sums.
-    pub(crate) begun: [bool; 32],
-    pub(crate) sums: [Sums; 32],
+    begun: [bool; 32],
+    /// They lie on the heap, so that no function pays for their size.
+    sums: Vec<Sums>,
+}
+
+impl Model for Parts {
+    ghost use Rattle.std.specs.Prelude.{◌≡◌, length};
+    ghost use Rattle.preempt.specs.GroupSums.{GroupParts};
+
+    ghost Value = { GroupParts };
+
+    ghost view = { λ p. record { begun = p.begun; sums = p.sums.items } };
+
+    ghost invariant = { λ p. length p.sums.items ≡ 32 };
 }
 
 impl Parts {
+    ghost use Rattle.std.specs.Prelude.{◌≡◌, ℕ, ◌<◌, [], IfOk, cond, nat_eq, slice_index};
+    ghost use Rattle.preempt.specs.GroupSums.{ArePartsOf, taken_at};
+
     /// Of a set without grants.
-    pub(crate) fn new() -> Parts
-        ensures { ArePartsOf result [] }
+    pub(crate) fn new(alloc: Global) -> Result<Parts, OutOfMemory>
+        ensures { IfOk result (λ parts. ArePartsOf parts []) }
     {
-        Parts {
+        Ok(Parts {
             begun: [false; 32],
-            sums: [Sums { q: [0; 8] }; 32],
-        }
+            sums: Vec::from_elem(alloc, Sums { q: [0; 8] }, 32)?,
+        })
     }
 
     /// Of a set without grants, once more.

@@ -191,7 +191,7 @@ pub fn find<P: Asking, L: Ledger>(
     let holders = by_priority(alloc, &units)?;
     let mut scratch = Scratch {
         set: Vec::new(alloc),
-        parts: Parts::new(),
+        parts: Parts::new(alloc)?,
     };
     let listing = listing_of(alloc, table, &holders)?;
     let shelves = shelves_of(alloc, table, &groups, &listing, &mut scratch.parts, steps)?;

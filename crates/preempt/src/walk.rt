@@ -1,16 +1,13 @@
 //! The admitted units in the order in which grants are walked: lower priority, then greater job, then greater
 //! unit. That order is the same on each machine.
 
-ghost use Rattle.std.specs.Prelude.{◌≡◌, ℕ, ◌+◌, ◌<◌, ◌≤◌, List, [], ◌∷◌, ◌++◌, Some, IfOk, OnOk, length, drop, map, filter, slice_get, nat_eq};
+ghost use Rattle.std.specs.Prelude.{◌≡◌, ℕ, ◌<◌, ◌++◌, Some, IfOk, OnOk, length, drop, map, filter, slice_get};
 ghost use Rattle.std.specs.List.{All, AllByRecursion};
 ghost use Rattle.fuxi_terms.specs.Cluster.{JobRecord};
-ghost use Rattle.fuxi_terms.specs.Jobs.{unit_count, unit_of, group_of, priority_of};
-ghost use Rattle.fuxi_terms.specs.Lists.{below};
-ghost use Rattle.grant_table.specs.GrantTables.{TableRecord, IsSound, as_known};
+ghost use Rattle.grant_table.specs.GrantTables.{TableRecord, IsSound};
 ghost use Rattle.preempt.specs.Given.{IsEntry, pair_of};
 ghost use Rattle.preempt.specs.Shelves.{AreHolders, AreRead, AreWalked, IsListed};
-ghost use Rattle.preempt.specs.declared.entry.Entry.{Entry};
-ghost use Rattle.preempt.specs.Walks.{holds_some, units_in, all_units, backward, of_priority, entries_by_priority};
+ghost use Rattle.preempt.specs.Walks.{holds_some, units_in, backward, of_priority, entries_by_priority};
 
 use crate::entry::{Entry, recounted};
 use fuxi_terms::OutOfMemory;
@@ -147,7 +144,7 @@ pub(crate) fn listing_of(
 {
     let machines = table.cluster().machines();
     let counts = counts_of(alloc, table, holders)?;
-    let mut entries = Vec::new(alloc);
+    let mut entries = Vec::with_capacity(alloc, holders.len())?;
     let mut starts = Vec::with_capacity(alloc, machines as usize + 1)?;
     starts.push(0)?;
     for machine in 0..machines {
