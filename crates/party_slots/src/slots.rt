@@ -110,13 +110,12 @@ impl<P: Party> Slots<P> {
         let Some(party) = slot.0.take() else {
             return Ok(None);
         };
-        match deed(party) {
-            Ok((party, answer)) => {
-                slot.0 = Some(party);
-                Ok(Some(answer))
-            }
-            Err(fault) => Err(fault),
-        }
+        let (party, answer) = match deed(party) {
+            Ok(both) => both,
+            Err(fault) => return Err(fault),
+        };
+        slot.0 = Some(party);
+        Ok(Some(answer))
     }
 
     // The party of a number, taken out of its slot until it is put back; `None` where none runs.

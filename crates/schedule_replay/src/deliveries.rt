@@ -62,10 +62,10 @@ fn deliver_one(
         Ok((packet, _)) => packet,
         Err(_) => return Err(WorldStop::OutOfMemory),
     };
-    match &hear(running, alloc, packet) {
-        Ok(heard) => write_heard(number, heard, out),
-        Err(_) => Err(WorldStop::OutOfMemory),
-    }
+    let Ok(heard) = hear(running, alloc, packet) else {
+        return Err(WorldStop::OutOfMemory);
+    };
+    write_heard(number, &heard, out)
 }
 
 // The packet of this number is delivered, if so many were sent.

@@ -19,8 +19,8 @@ hear-requires-clause-no_end c =
     let at = subst (λ (r : WorldRecord). slice_get r.pool.frames (c.args.number - 1) ≡ Some c.in-Some.bytes.now) c.running.view_is c.in-Some.ensures.some in
     (stored_found c.stored_is_read.ensures.place c.requires.can.world c.args.running.now.pool (c.args.number - 1) c.in-Some.bytes.now c.in-Ok.packet c.in-Ok.field-0-1 c.requires.can.stands.packets at c.in-Ok.ensures).sent.no_end
 
-pub returns-in-Ok-hear : goal.returns-in-Ok-hear
-returns-in-Ok-hear c =
+pub returns : goal.returns
+returns c =
     let at = subst (λ (r : WorldRecord). slice_get r.pool.frames (c.args.number - 1) ≡ Some c.in-Some.bytes.now) c.running.view_is c.in-Some.ensures.some in
     let now = c.args.running.now in
     let new = c.hear.new.running in
