@@ -65,7 +65,7 @@ fn deliver_one(
     let Ok(heard) = hear(running, alloc, packet) else {
         return Err(WorldStop::OutOfMemory);
     };
-    write_heard(number, &heard, out)
+    write_heard(number, heard, out)
 }
 
 // The packet of this number is delivered, if so many were sent.

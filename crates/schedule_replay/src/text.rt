@@ -97,26 +97,15 @@ pub(crate) fn write_all_sent(
 // As what the packet of this number was heard, if by anybody.
 pub(crate) fn write_heard(
     number: u64,
-    heard: &Option<Heard>,
+    heard: Option<Heard>,
     out: &mut Vec<u8>,
 ) -> Result<(), WorldStop>
-    ensures ok { OnOk result (out.new.items ≡ out.old.items ++ lines_text (heard_lines number heard.now)) }
+    ensures ok { OnOk result (out.new.items ≡ out.old.items ++ lines_text (heard_lines number heard)) }
     ensures err { IfErr result WantsMemory }
 {
     match heard {
         None => write_line(&Output::Lost(number), out),
-        Some(heard) => write_one_heard(number, heard, out),
-    }
-}
-
-// As what the packet of this number was heard by who runs.
-fn write_one_heard(number: u64, heard: &Heard, out: &mut Vec<u8>) -> Result<(), WorldStop>
-    ensures ok { OnOk result (out.new.items ≡ out.old.items ++ lines_text (heard_lines number (Some heard.now))) }
-    ensures err { IfErr result WantsMemory }
-{
-    match schedule_text::write_heard(number, heard.fresh, &heard.what, out) {
-        Ok(()) => Ok(()),
-        Err(_) => Err(WorldStop::OutOfMemory),
+        Some(heard) => write_line(&Output::Heard(number, heard.fresh, heard.what), out),
     }
 }
 

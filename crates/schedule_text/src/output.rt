@@ -5,7 +5,6 @@ ghost use Rattle.hex.specs.Hex.{encode_lower};
 ghost use Rattle.schedule_text.specs.PrintedLines.{party_word, place_word, kind_word, what_word, frame_words, ended};
 ghost use Rattle.schedule_text.specs.Printing.{as_party, as_kind, is_of_packet, is_entry, output_words, output_text};
 ghost use Rattle.schedule_text.specs.Writing.{blanked, spaced, Begins};
-ghost use Rattle.schedule_text.specs.declared.output.Output.TheVariants.{Heard};
 
 use crate::refusal::{Refusal, push_refusal};
 use crate::tail::Tail;
@@ -104,22 +103,6 @@ pub fn write_output(line: &Output, out: &mut Vec<u8>) -> Result<(), OutOfMemory>
         Output::Heard(number, fresh, what) => put_heard_line(&mut text, *number, *fresh, what),
         _ => return write_other(line, out),
     }
-    Ok(out.extend_from_slice(text.as_slice())?)
-}
-
-/// Appends the line of a packet that was heard, as [`Output::Heard`] has it, and a newline. Leaves `out` as it was where memory was
-/// refused.
-pub fn write_heard(
-    number: u64,
-    fresh: bool,
-    what: &What,
-    out: &mut Vec<u8>,
-) -> Result<(), OutOfMemory>
-    ensures ok { OnOk result (out.new.items ≡ out.old.items ++ output_text (Heard number fresh what.now)) }
-    ensures err { OnErr result (out.new.items ≡ out.old.items) }
-{
-    let mut text = Tail::new();
-    put_heard_line(&mut text, number, fresh, what);
     Ok(out.extend_from_slice(text.as_slice())?)
 }
 
