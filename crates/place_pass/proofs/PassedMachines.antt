@@ -1,22 +1,20 @@
 -- What a search knows of the machines that it passes.
-use Rattle.std.proofs.Common.{◌≡◌, ℕ, ◌-◌, ◌<◌, ◌≤◌, Bool, true, false, not, nat_eq, List, [], ◌∷◌, Option, None, Some, get_or, refl, sym, ap, subst, inl, inr, arith}
+use Rattle.std.proofs.Common.{◌≡◌, ℕ, ◌<◌, ◌≤◌, Bool, true, false, not, nat_eq, List, Option, None, Some, get_or, refl, sym, ap, subst, inl, inr, arith}
 use Rattle.std.specs.Prelude.{◌&&◌, is_some, IsSomeAnd}
 use Rattle.std.proofs.lemmas.Bool.{cases_lt}
 use Rattle.fuxi_terms.proofs.Booleans.{both_true, number_is}
-use Rattle.place_pass.specs.Bounds.{MarkRecord, rank_of, mark_at, key_of, rank_at, is_bound}
+use Rattle.place_pass.specs.Bounds.{MarkRecord, rank_of, mark_at, key_of, bounded_mark, rank_at}
 use Rattle.place_pass.specs.PackedRanks.{packed, IsAbove}
 use Rattle.place_pass.specs.SearchCounts.{is_unsettled_by}
-use Rattle.place_pass.specs.Scenes.{board_in, CanSearch, IsMarked, AreMarked, IsLeastOn, IsSettledBy, AreSince}
+use Rattle.place_pass.specs.Scenes.{board_in, CanSearch, IsMarked, AreMarked, IsLeastOn, IsSettledBy, IsEarliest}
 use Rattle.place_pass.specs.Sights.{IsBehind, AreBehind, ArePassed, limit_in, found_rank, turn_in, is_first}
-use Rattle.written_roles.specs.Masters.{level_of}
 use Rattle.place_pass.specs.declared.marks.Rank.{Rank}
-use Rattle.place_pass.specs.declared.recent.Recent.{Recent}
 use Rattle.place_pass.specs.declared.search.Found.{Found}
 use Rattle.place_pass.specs.declared.search.Least.{Least}
 use Rattle.place_pass.specs.declared.search.Scene.{Scene}
 use Rattle.place_pass.proofs.PackedRanksLemmas.{not_first, never_above, above_less}
 use Rattle.place_pass.proofs.ScenesLemmas.{key_seen}
-use Rattle.place_pass.proofs.SightsLemmas.{passed_over, placeable_bound, least_passed, least_settled, least_unopened, settled_key}
+use Rattle.place_pass.proofs.SightsLemmas.{passed_over, bounded_by, least_passed, least_settled, settled_key}
 
 abbrev pub is_other : Scene → ℕ → List MarkRecord → ℕ → Bool
 is_other s start marks m = not (nat_eq m start) && is_unsettled_by s.wishes.now.opened (mark_at marks m) s.turns m
@@ -86,26 +84,14 @@ none_unsettled o marks t n m behind lt = elim (is_unsettled_by o (mark_at marks 
   | false ↦ λ _. refl
 ] refl
 
--- ---- a machine that was not looked at since the last pairs were appended: what was looked at is bounded by its mark, and the others by a rank that bounds them on
--- every machine
--- what a bound leaves does not come before the best
-abbrev pub IsBoundBehind : Option (List ℕ) → Option Found → ℕ → Type 0
-IsBoundBehind bound best m = (x y z : ℕ) → is_bound bound (x ∷ y ∷ z ∷ []) ≡ true → is_bound (found_rank best) (x ∷ y ∷ z ∷ m ∷ []) ≡ true
+-- ---- a machine on which a rank that bounds the line everywhere does not come before the best
+pub least_raised : (s : Scene) (m : ℕ) (x : Rank) (best : Option Found) → IsEarliest s x → is_first best (rank_of x) m ≡ false → IsLeastOn s best m
+least_raised s m x best earliest later = record {
+  least = λ q has p. passed_over best (rank_of x) (rank_at (board_in s) s.table.now.entries (turn_in s.turn_of.now q) q m) m refl later (earliest.bounded q m has);
+}
 
-pub none_behind : (k : MarkRecord) (best : Option Found) (m : ℕ) → k.bound ≡ None → IsBoundBehind k.bound best m
-none_behind k best m none = subst (λ o. IsBoundBehind o best m) (sym none) (λ x y z h. let f : false ≡ true = h in cc)
-
-pub bound_behind : (k : MarkRecord) (best : Option Found) (m : ℕ) (r : Rank) → k.bound ≡ Some (rank_of r) → is_first best (rank_of r) m ≡ false → IsBoundBehind k.bound best m
-bound_behind k best m r some later = subst (λ o. IsBoundBehind o best m) (sym some) (λ x y z h. passed_over best (rank_of r) (x ∷ y ∷ z ∷ []) m refl later h)
-
-pub least_behind : (s : Scene) (m : ℕ) (k : MarkRecord) (x : Recent) (best : Option Found) → IsMarked s m k → AreSince s x → x.since ≤ k.until → is_first best (rank_of x.rank) m ≡ false → IsBoundBehind k.bound best m → IsLeastOn s best m
-least_behind s m k x best marked since seen later behind = elim (get_or s.wishes.now.opened m false) as (λ b. get_or s.wishes.now.opened m false ≡ b → IsLeastOn s best m) [
-  | true ↦ λ opened. record {
-    least = λ q has p. elim (cases_lt (turn_in s.turn_of.now q) k.until) [
-      | inl lt ↦ behind (9 - (board_in s).priorities q.0 q.1) (level_of (board_in s).cluster (board_in s).asks s.table.now.entries q.0 q.1 m) (turn_in s.turn_of.now q)
-          (placeable_bound (board_in s) s.table.now.entries k.bound k.groups (turn_in s.turn_of.now q) q m ((marked.bounded opened).bounded q has lt) p)
-      | inr ge ↦ passed_over best (rank_of x.rank) (rank_at (board_in s) s.table.now.entries (turn_in s.turn_of.now q) q m) m refl later (since.bounded q m has (omega (arith, ge, seen)))
-    ];
-  }
-  | false ↦ λ closed. least_unopened s.wishes.now.cells s.wishes.now.opened s.table.now (turn_in s.turn_of.now) s.line.now.pairs m (found_rank best) closed
-] refl
+pub marked_raised : (s : Scene) (m : ℕ) (x : Rank) (k : MarkRecord) → IsEarliest s x → IsMarked s m (bounded_mark (Some (rank_of x)) s.turns k)
+marked_raised s m x k earliest = record {
+  bounded = λ opened. record { bounded = λ q has lt. bounded_by (board_in s) s.table.now.entries (Some (rank_of x)) k.groups (turn_in s.turn_of.now q) q m (earliest.bounded q m has) };
+  until = λ opened. omega arith;
+}

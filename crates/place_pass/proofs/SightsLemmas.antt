@@ -182,20 +182,17 @@ least_passed b es f line m best key groups three passed h = record { least = λ 
 pub least_none : (b : Board) (es : Table) (f : Pair → ℕ) (line : List Pair) (m : ℕ) (best : Option (List ℕ)) (groups : List Bool) → ((q : Pair) → has_pair q line ≡ true → IsBounded b es None groups (f q) q m) → IsLeast b es f line best m
 least_none b es f line m best groups h = record { least = λ q has p. let f : false ≡ true = placeable_bound b es None groups (f q) q m (h q has) p in cc }
 
-least_closed : (b : Board) (es : Table) (f : Pair → ℕ) (line : List Pair) (m : ℕ) (best : Option (List ℕ)) → ((q : Pair) → accepts_in b es q.0 q.1 m ≡ false) → IsLeast b es f line best m
+pub least_closed : (b : Board) (es : Table) (f : Pair → ℕ) (line : List Pair) (m : ℕ) (best : Option (List ℕ)) → ((q : Pair) → accepts_in b es q.0 q.1 m ≡ false) → IsLeast b es f line best m
 least_closed b es f line m best h = record {
   least = λ q has p. let x = both_true (may_grow_in b es q.0 q.1) _ p in let f : false ≡ true = sym (h q) ∙ (both_true (accepts_in b es q.0 q.1 m) (has_room_in b.cluster b.sizes es q.0 q.1 m) x.1).0 in cc;
 }
-
-pub least_unopened : (cells : List (List Cell)) (o : List Bool) (t : TableRecord) (f : Pair → ℕ) (line : List Pair) (m : ℕ) (best : Option (List ℕ)) → get_or o m false ≡ false → IsLeast (board_over cells o t) t.entries f line best m
-least_unopened cells o t f line m best closed = least_closed (board_over cells o t) t.entries f line m best (λ q. ap (λ x. (x && not (nat_lt 0 (asks_in cells q.0 (avoid_key q.1 m)))) && nat_lt (held_on t.entries q.0 q.1 m) (most_of (as_known t.jobs) q.0 q.1)) closed)
 
 -- a machine that is closed, or on which by its mark nothing is placeable
 pub least_settled : (cells : List (List Cell)) (o : List Bool) (t : TableRecord) (f : Pair → ℕ) (line : List Pair) (k : MarkRecord) (m turns : ℕ) (best : Option (List ℕ)) → is_unsettled_by o k turns m ≡ false → ((q : Pair) → has_pair q line ≡ true → f q < turns)
     → (get_or o m false ≡ true → AreBounded (board_over cells o t) t.entries f line k m) → IsLeast (board_over cells o t) t.entries f line best m
 least_settled cells o t f line k m turns best settled below h = elim (get_or o m false) as (λ x. get_or o m false ≡ x → (x && is_some (key_of k turns)) ≡ false → IsLeast (board_over cells o t) t.entries f line best m) [
   | true ↦ λ opened none. least_none (board_over cells o t) t.entries f line m best k.groups (λ q has. subst (λ b. IsBounded (board_over cells o t) t.entries b k.groups (f q) q m) (none_is (key_of k turns) none) (key_bounds (board_over cells o t) t.entries f line k m turns below (h opened) q has))
-  | false ↦ λ closed _. least_unopened cells o t f line m best closed
+  | false ↦ λ closed _. least_closed (board_over cells o t) t.entries f line m best (λ q. ap (λ x. (x && not (nat_lt 0 (asks_in cells q.0 (avoid_key q.1 m)))) && nat_lt (held_on t.entries q.0 q.1 m) (most_of (as_known t.jobs) q.0 q.1)) closed)
 ] refl settled
 
 pub settled_key : (opened : Bool) (b : Option (List ℕ)) → (opened && is_some b) ≡ false → opened ≡ true → b ≡ None

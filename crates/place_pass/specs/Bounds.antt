@@ -43,6 +43,10 @@ no_groups = replicate 32 false
 abbrev pub reset_mark : ℕ → MarkRecord
 reset_mark until = record { bound = Some zero_rank; until = until; groups = no_groups }
 
+-- all pairs of the line are bounded
+abbrev pub bounded_mark : Option (List ℕ) → ℕ → MarkRecord → MarkRecord
+bounded_mark bound turns k = record k { bound = bound; until = turns }
+
 -- no group is noted
 abbrev pub cleared_mark : MarkRecord → MarkRecord
 cleared_mark k = record k { groups = no_groups }

@@ -4,7 +4,7 @@ use Rattle.std.proofs.Common.{get_or}
 use Rattle.fuxi_terms.specs.Keys.{Pair}
 use Rattle.written_roles.specs.Masters.{out_of}
 use Rattle.written_roles.specs.Placing.{Board, has_pair}
-use Rattle.place_pass.specs.declared.recent.Recent.{Recent}
+use Rattle.place_pass.specs.declared.marks.Rank.{Rank}
 use Rattle.place_pass.specs.declared.search.Found.{Found}
 use Rattle.place_pass.specs.declared.search.Scene.{Scene}
 use Rattle.place_pass.specs.declared.search.Sight.{Sight}
@@ -53,6 +53,6 @@ IsFoundIn s x = IsFound (board_in s) s.table.now.entries (turn_in s.turn_of.now)
 abbrev pub IsLeastOn : Scene → Option Found → ℕ → Type 0
 IsLeastOn s best m = IsLeast (board_in s) s.table.now.entries (turn_in s.turn_of.now) s.line.now.pairs (found_rank best) m
 
--- no pair of the line with a turn from a number on comes before a rank on any machine
-pub record AreSince (s : Scene) (x : Recent) : Type 0 where
-  pub bounded : (q : Pair) (m : ℕ) → has_pair q s.line.now.pairs ≡ true → x.since ≤ turn_in s.turn_of.now q → is_bound (Some (rank_of x.rank)) (rank_at (board_in s) s.table.now.entries (turn_in s.turn_of.now q) q m) ≡ true
+-- no pair of the line comes before a rank on any machine
+pub record IsEarliest (s : Scene) (x : Rank) : Type 0 where
+  pub bounded : (q : Pair) (m : ℕ) → has_pair q s.line.now.pairs ≡ true → is_bound (Some (rank_of x)) (rank_at (board_in s) s.table.now.entries (turn_in s.turn_of.now q) q m) ≡ true

@@ -33,8 +33,8 @@ pub(crate) struct Rank {
     pub(crate) turn: u64,
 }
 
-// The rank that no other comes before.
-fn earliest() -> Rank
+/// The rank that no other comes before.
+pub(crate) fn earliest() -> Rank
     ensures { rank_of result ≡ zero_rank }
 {
     Rank {
@@ -60,7 +60,7 @@ impl Mark {
     ghost use Rattle.std.proofs.Common.{get_or};
     ghost use Rattle.std.specs.Option.{option_map};
     ghost use Rattle.std.specs.List.{list_any};
-    ghost use Rattle.place_pass.specs.Bounds.{rank_of, mark_of, key_of, reset_mark, cleared_mark, lowered_mark, taken_mark};
+    ghost use Rattle.place_pass.specs.Bounds.{rank_of, mark_of, key_of, reset_mark, bounded_mark, cleared_mark, lowered_mark, taken_mark};
 
     /// Of a machine that was not looked at.
     pub(crate) fn new() -> Mark
@@ -97,6 +97,14 @@ impl Mark {
         ensures { mark_of self.new ≡ cleared_mark (mark_of self.old) }
     {
         self.groups = [false; 32];
+    }
+
+    // No pair of the line may be placed before this bound.
+    fn set_bound(&mut self, bound: Option<Rank>, until: u64)
+        ensures { mark_of self.new ≡ bounded_mark (option_map rank_of bound) until (mark_of self.old) }
+    {
+        self.bound = bound;
+        self.until = until;
     }
 
     // Whether a group is noted. No branch in the loop: the places are taken several at once.
@@ -188,7 +196,8 @@ impl Model for Marks {
 impl Marks {
     ghost use Rattle.std.specs.Prelude.{◌≡◌, ℕ, ◌+◌, ◌<◌, ◌≤◌, true, false, is_some, nat_eq, cond, length, replicate, List, None, IfOk, IfSome};
     ghost use Rattle.std.proofs.Common.{get_or};
-    ghost use Rattle.place_pass.specs.Bounds.{mark_of, mark_at, key_of, reset_mark, lowered_mark, taken_mark, is_bound};
+    ghost use Rattle.place_pass.specs.Bounds.{rank_of, mark_of, mark_at, key_of, reset_mark, bounded_mark, lowered_mark, taken_mark, is_bound};
+    ghost use Rattle.std.specs.Option.{option_map};
     ghost use Rattle.place_pass.specs.PackedRanks.{IsAbove};
     ghost use Rattle.place_pass.specs.Sights.{found_rank};
     ghost use Rattle.place_pass.specs.Scenes.{CanSearch, IsMarked, IsSettledBy, IsFoundIn, IsLeastOn};
@@ -292,6 +301,20 @@ impl Marks {
         let key = number_of_mark(mark, self.until, machine.0);
         self.noted |= mark.notes_any();
         self.keys[machine.0 as usize] = key;
+    }
+
+    /// No pair of the line may be placed on a machine before this bound. Their turns are below `turns`.
+    pub(crate) fn set_bound(&mut self, machine: u32, bound: Option<Rank>, turns: u64)
+        requires { machine < length self.old }
+        ensures long { length self.new ≡ length self.old }
+        ensures here { mark_at self.new machine ≡ bounded_mark (option_map rank_of bound) turns (mark_at self.old machine) }
+        ensures others { (m : ℕ) → nat_eq machine m ≡ false → mark_at self.new m ≡ mark_at self.old m }
+    {
+        renew(&mut self.keys, &mut self.until, turns);
+        let mark = &mut self.marks[machine as usize];
+        mark.set_bound(bound, turns);
+        let key = number_of_mark(mark, self.until, machine);
+        self.keys[machine as usize] = key;
     }
 
     // Whether a mark may note a group.

@@ -20,12 +20,12 @@ ghost use Rattle.place_pass.specs.SearchCounts.{is_unsettled_by, count_below};
 ghost use Rattle.place_pass.specs.PlacerTrees.{TreeOf};
 ghost use Rattle.place_pass.specs.PackedRanks.{packed, IsAbove};
 ghost use Rattle.place_pass.specs.Sights.{IsBehind, AreBehind, ArePassed, limit_in, number_in, sight_rank, rank_with, found_rank, turn_in, IsFree, IsSight, AreBounded, is_first};
-ghost use Rattle.place_pass.specs.Scenes.{board_in, CanSearch, IsBestOn, IsMarked, IsSettledBy, AreMarked, IsFoundIn, IsLeastOn, AreSince};
+ghost use Rattle.place_pass.specs.Scenes.{board_in, CanSearch, IsBestOn, IsMarked, IsSettledBy, AreMarked, IsFoundIn, IsLeastOn, IsEarliest};
 
+use crate::earliest::earliest_of_line;
 use crate::keys::{number_of, number_of_none};
 use crate::line::Line;
 use crate::marks::{Mark, Marks, Rank};
-use crate::recent::{Recent, recent_pairs};
 use crate::wishes::Wishes;
 use cluster_desc::{Cluster, Group};
 use grant_table::{GrantTable, Pick, Steps};
@@ -614,43 +614,17 @@ fn consider_at<L: Ledger>(
     marks.consider(scene, machine, steps, best);
 }
 
-// Whether on a machine neither a pair that was looked at comes before the best so far nor one that was appended since.
-fn is_behind(
-    scene: &Scene<'_>,
-    recent: &Recent,
-    machine: MachineNo,
-    mark: &Mark,
-    best: &Option<Found>,
-) -> bool
-    requires ready { CanSearch scene.now }
-    requires recent { AreSince scene.now recent.now }
-    requires old { IsMarked scene.now machine.0 (mark_of mark.now) }
-    ensures least { result ≡ true → IsLeastOn scene.now best.now machine.0 }
-    ensures some { result ≡ true → is_none best.now ≡ false }
-{
-    if mark.until < recent.since {
-        return false;
-    }
-    if may_be_first(best, &recent.rank, machine) {
-        return false;
-    }
-    let Some(bound) = mark.bound else {
-        return true;
-    };
-    !may_be_first(best, &bound, machine)
-}
-
-// The same of a machine beside the first, by what is known of the pairs that were appended lately.
+// The same of a machine beside the first: one on which no pair of the line can be the best is not looked at, and its mark says so.
 fn consider_other<L: Ledger>(
     scene: &Scene<'_>,
-    recent: &Recent,
+    earliest: Rank,
     machine: MachineNo,
     marks: &mut Marks,
     steps: &mut Steps<L>,
     best: &mut Option<Found>,
 )
     requires ready { CanSearch scene.now }
-    requires recent { AreSince scene.now recent.now }
+    requires earliest { IsEarliest scene.now earliest }
     requires machine { machine.0 < length scene.now.table.now.cluster.machines }
     requires marked { length marks.old ≡ length scene.now.table.now.cluster.machines }
     requires old { AreMarked scene.now marks.old }
@@ -664,10 +638,11 @@ fn consider_other<L: Ledger>(
     ensures settled { best.new ≡ None → IsSettledBy scene.now machine.0 (mark_at marks.new machine.0) }
     ensures empty { best.new ≡ None → best.old ≡ None }
 {
-    if is_behind(scene, recent, machine, marks.at(machine.0), best) {
+    if may_be_first(best, &earliest, machine) {
+        consider_at(scene, machine, marks, steps, best);
         return;
     }
-    consider_at(scene, machine, marks, steps, best);
+    marks.set_bound(machine.0, Some(earliest), scene.turns);
 }
 
 // The number of the best so far.
@@ -786,9 +761,9 @@ fn best_of_others<L: Ledger>(
     if at >= marks.len() {
         return;
     }
-    let recent = recent_pairs(scene);
+    let earliest = earliest_of_line(scene);
     while at < marks.len() {
-        consider_other(scene, &recent, MachineNo(at), marks, steps, best);
+        consider_other(scene, earliest, MachineNo(at), marks, steps, best);
         at = next_other(marks, start, at + 1, scene.turns, best);
     }
 }

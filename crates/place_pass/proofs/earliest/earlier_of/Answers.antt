@@ -1,7 +1,7 @@
 use Rattle.std.proofs.Common.{sym, ◌∙◌}
 use Rattle.place_pass.specs.Bounds.{rank_of}
 use Rattle.place_pass.proofs.SightsLemmas.{kept_better, kept_worse}
-use Rattle.place_pass.proofs.recent.earlier_of.Goals as goal
+use Rattle.place_pass.proofs.earliest.earlier_of.Goals as goal
 
 pub returns-then-is_earlier_here-clause-first : goal.returns-then-is_earlier_here-clause-first
 returns-then-is_earlier_here-clause-first c r = kept_better (rank_of c.args.other) (rank_of c.args.rank) r (sym c.is_earlier_here.ensures ∙ c.if-is_earlier_here.true)

@@ -8,7 +8,7 @@ use Rattle.place_pass.specs.Bounds.{is_bound}
 use Rattle.place_pass.proofs.BoundsLemmas.{bound_worse}
 use Rattle.place_pass.proofs.CellsMatchTable.{unit_is}
 use Rattle.place_pass.proofs.SightsLemmas.{self_bound}
-use Rattle.place_pass.proofs.recent.rank_anywhere.Goals as goal
+use Rattle.place_pass.proofs.earliest.rank_anywhere.Goals as goal
 
 pub returns : goal.returns
 returns c m =
