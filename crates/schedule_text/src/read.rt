@@ -5,6 +5,7 @@ ghost use Rattle.std.specs.List.{list_all};
 ghost use Rattle.schedule_text.specs.LineForms.{heads, halt_shape, shape_of, as_shape};
 ghost use Rattle.schedule_text.specs.ReadEvents.{begins, has_count, own_count, is_unit, units_of, head_of, number_at, numbers_at, counts_at, most_at, ask_at, asks_at, event_behind, stop_of, halt_of, event_of_words, event_of, front, IsFault};
 ghost use Rattle.schedule_text.specs.Halting.{anywhere};
+ghost use Rattle.schedule_text.specs.Words.{words_of};
 ghost use Rattle.schedule_text.specs.Writing.{IsLineEvent};
 
 use crate::event::{Event, LineFault};
@@ -30,18 +31,33 @@ pub fn read_event(alloc: Global, line: &[u8]) -> Result<Event, LineFault>
     event_of(alloc, line)
 }
 
-// The same. The words of a line that has few of them want no memory.
+// The same.
 fn event_of(alloc: Global, line: &[u8]) -> Result<Event, LineFault>
     ensures ok { IfOk result (λ event. event_of line.now ≡ Ok (anywhere event)) }
     ensures fault { IfErr result (IsFault (event_of line.now)) }
 {
     let mut few: [&[u8]; 8] = [&[]; 8];
-    if let Some(count) = few_words(line, &mut few) {
+    let mut many: Vec<&[u8]> = Vec::new(alloc);
+    let words = words_in(alloc, line, &mut few, &mut many)?;
+    event_in(alloc, words)
+}
+
+// The words of a line, in these places where they are few, which wants no memory, and else in the list.
+fn words_in<'a, 'b>(
+    alloc: Global,
+    line: &'a [u8],
+    few: &'b mut [&'a [u8]; 8],
+    many: &'b mut Vec<&'a [u8]>,
+) -> Result<&'b [&'a [u8]], OutOfMemory>
+    ensures words { IfOk result (λ words. map (λ w. w.now) words.now ≡ words_of line.now) }
+    ensures range { IfOk result (λ words. length words.now < 2 ^ 60) }
+{
+    if let Some(count) = few_words(line, few) {
         let (words, _) = few.as_slice().split_at(count);
-        return event_in(alloc, words);
+        return Ok(words);
     }
-    let words = words_of(alloc, line)?;
-    event_in(alloc, words.as_slice())
+    *many = words_of(alloc, line)?;
+    Ok(many.as_slice())
 }
 
 // The event of the words of a line.
