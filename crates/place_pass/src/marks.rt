@@ -464,6 +464,19 @@ pub(crate) fn forget_groups(marks: &mut Marks, wishes: &Wishes, line: &Line, tab
     clear_all(marks);
 }
 
+/// No pair waits, so nothing is placeable on any machine. The turns of all pairs that waited are below `turns`.
+pub(crate) fn settle_all(marks: &mut Marks, turns: u64)
+    ensures settled { (m : ℕ) → m < length marks.old → key_of (mark_at marks.new m) turns ≡ None }
+    ensures until { (m : ℕ) → (mark_at marks.old m).until ≤ turns → (mark_at marks.new m).until ≤ turns }
+    ensures long { length marks.new ≡ length marks.old }
+{
+    let mut at = marks.next(0, number_of_none(), turns);
+    while at < marks.len() {
+        marks.set_bound(at, None, turns);
+        at = marks.next(at + 1, number_of_none(), turns);
+    }
+}
+
 /// Anything may be placeable on this machine.
 pub(crate) fn reset_one(marks: &mut Marks, machine: MachineNo)
     requires { machine.0 < length marks.old }

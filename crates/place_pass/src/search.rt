@@ -25,7 +25,7 @@ ghost use Rattle.place_pass.specs.Scenes.{board_in, CanSearch, IsBestOn, IsMarke
 use crate::earliest::earliest_of_line;
 use crate::keys::{number_of, number_of_none};
 use crate::line::Line;
-use crate::marks::{Mark, Marks, Rank};
+use crate::marks::{Mark, Marks, Rank, settle_all};
 use crate::wishes::Wishes;
 use cluster_desc::{Cluster, Group};
 use grant_table::{GrantTable, Pick, Steps};
@@ -809,7 +809,7 @@ fn best_from_least<L: Ledger>(
 }
 
 /// The placeable pair of first rank, and `None` exactly where none is placeable. Each machine by whose mark a pair may be
-/// placeable there is looked at at most once, and where there is none, all of them.
+/// placeable there is looked at at most once, and where there is none, all of them, but none where no pair waits.
 pub(crate) fn first<L: Ledger>(
     wishes: &Wishes,
     line: &Line,
@@ -837,6 +837,10 @@ pub(crate) fn first<L: Ledger>(
     ensures count { steps.new ≤ steps.old + count_below (λ m. is_unsettled_by wishes.now.opened (mark_at marks.old m) turns m) (length table.now.cluster.machines) }
     ensures settled { result ≡ None → (m : ℕ) → m < length table.now.cluster.machines → get_or wishes.now.opened m false ≡ true → key_of (mark_at marks.new m) turns ≡ None }
 {
+    if line.len() == 0 {
+        settle_all(marks, turns);
+        return None;
+    }
     let Some(least) = least_machine(wishes, marks, turns) else {
         return None;
     };

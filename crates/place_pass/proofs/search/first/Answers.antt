@@ -1,5 +1,7 @@
-use Rattle.std.proofs.Common.{◌≡◌, ℕ, ◌<◌, Bool, false, List, Option, None, Some, get_or, sym, subst, length}
+use Rattle.std.proofs.Common.{◌≡◌, ℕ, ◌<◌, Bool, true, false, List, Option, None, Some, get_or, sym, ◌∙◌, subst, length, arith}
 use Rattle.std.specs.Prelude.{IfSome}
+use Rattle.fuxi_terms.specs.Keys.{Pair}
+use Rattle.written_roles.specs.Placing.{has_pair}
 use Rattle.place_pass.specs.Bounds.{MarkRecord, mark_at, key_of}
 use Rattle.place_pass.specs.Placers.{board_over}
 use Rattle.place_pass.specs.SearchCounts.{is_unsettled_by}
@@ -8,12 +10,25 @@ use Rattle.place_pass.specs.declared.search.Found.{Found}
 use Rattle.place_pass.specs.declared.search.Least.{Least}
 use Rattle.place_pass.proofs.FirstByTurn.{none_first, found_first}
 use Rattle.place_pass.proofs.PassedMachines.{none_unsettled}
-use Rattle.place_pass.proofs.SightsLemmas.{least_settled, settled_key}
+use Rattle.place_pass.proofs.SightsLemmas.{least_settled, settled_key, place_of, index_within}
 use Rattle.place_pass.proofs.search.first.Goals as goal
 
 -- with no machine of least bound each is settled
 settled : (o : List Bool) (marks : List MarkRecord) (turns n : ℕ) (least : Option Least) → length marks ≡ n → least ≡ None → AreBehind o marks turns (length marks) least → (m : ℕ) → m < n → is_unsettled_by o (mark_at marks m) turns m ≡ false
 settled o marks turns n least long none behind m lt = none_unsettled o marks turns (length marks) m (subst (AreBehind o marks turns (length marks)) none behind) (subst (λ z. m < z) (sym long) lt)
+
+-- no pair waits in a line without one
+no_pair : (q : Pair) (line : List Pair) → length line ≡ 0 → has_pair q line ≡ true → ⊥
+no_pair q line none has = let p = place_of q line has in let w = index_within line p.place q p.at in omega (arith, none, w)
+
+pub returns-then-len-eq0-clause-bounded : goal.returns-then-len-eq0-clause-bounded
+returns-then-len-eq0-clause-bounded g c m opened = record { bounded = λ q has lt. absurd (no_pair q c.args.line.now.pairs (sym c.len.ensures.number ∙ c.if-len-eq0.true) has) }
+
+pub returns-then-len-eq0-clause-first : goal.returns-then-len-eq0-clause-first
+returns-then-len-eq0-clause-first g c =
+    let w = c.args.wishes.now in
+    let t = c.args.table.now in
+    sym (none_first (board_over w.cells w.opened t) t.entries (turn_in c.args.turn_of.now) c.args.line.now.pairs (λ m lt. record { least = λ q has p. absurd (no_pair q c.args.line.now.pairs (sym c.len.ensures.number ∙ c.if-len-eq0.true) has) }))
 
 pub returns-in_default-clause-first : goal.returns-in_default-clause-first
 returns-in_default-clause-first g c =
