@@ -1,8 +1,9 @@
 -- An agent's answers to packets of the known and of a new incarnation of its master are those of the agent by itself.
-use Rattle.std.proofs.Common.{◌≡◌, ℕ, ◌<◌, true, false, cond, nat_eq, List, sym, ◌∙◌, ap, subst, arith}
-use Rattle.std.specs.Prelude.{◌&&◌}
+use Rattle.std.proofs.Common.{◌≡◌, ℕ, ◌<◌, true, false, cond, nat_eq, List, Result, Ok, Err, sym, ◌∙◌, ap, subst, arith}
+use Rattle.std.specs.Prelude.{◌&&◌, IfOk}
 use Rattle.fuxi_terms.specs.Keys.{RowKey}
 use Rattle.fuxi_terms.proofs.Booleans.{both_true, number_is}
+use Rattle.fuxi_terms.specs.declared.OutOfMemory.{OutOfMemory}
 use Rattle.party_ledgers.specs.Joins.{no_join, IsJoin}
 use Rattle.party_ledgers.specs.PartyDifferences.{replaced}
 use Rattle.party_ledgers.specs.declared.packets.Heard.{Heard}
@@ -16,7 +17,7 @@ use Rattle.core_side.specs.Bodies.{report_of}
 use Rattle.core_side.specs.Parcels.{packet_of, parcel_is}
 use Rattle.core_side.specs.CoreSides.{HearsAlike, PostsAlike}
 use Rattle.agent_core.specs.AgentCores.{AgentCore, Up, IsUp, StandsFor}
-use Rattle.agent_core.specs.Answering.{Answers}
+use Rattle.agent_core.specs.Answering.{Answers, AnswersAlike}
 
 id_is : (a b : Id) → same_id a b ≡ true → a ≡ b
 id_is a b t =
@@ -46,7 +47,7 @@ module _ (old : AgentCore) (x : Packet) (mine : (same_id (packet_of x).to.id (ag
     says = says ∙ ap (λ t. t.what) (sym told);
   }
 
-  pub known_answers : (new : AgentCore) (heard : Heard) → new.machine ≡ old.machine → new.has ≡ old.has → HearsAlike no_join replaced IsJoin report_of row_ledger (row_excess old.has) x old.up new.up heard → heard.fresh ≡ false → Answers new x heard r
+  known_answers : (new : AgentCore) (heard : Heard) → new.machine ≡ old.machine → new.has ≡ old.has → HearsAlike no_join replaced IsJoin report_of row_ledger (row_excess old.has) x old.up new.up heard → heard.fresh ≡ false → Answers new x heard r
   known_answers new heard machine has hears known =
       let h = hears (agent_party r) r.up s.up for_me in
       answered new heard machine has h.fresh h.says
@@ -62,3 +63,9 @@ module _ (old : AgentCore) (x : Packet) (mine : (same_id (packet_of x).to.id (ag
       answered new heard machine has h.fresh h.says
       (subst (λ b. IsUp new.up r.boot (cond b (appended false (report_ledger x.from.inc (table_by r.up)) heard_by.side) heard_by.side)) (sym fresh ∙ h.fresh)
       (subst (λ l. IsUp new.up r.boot (appended false l heard_by.side)) shows up))
+
+-- a packet of the known incarnation, where it was heard
+pub known_heard : (old : AgentCore) (x : Packet) → (same_id (packet_of x).to.id (agent_id old.machine) && is_master (packet_of x).from.id) ≡ true → (new : AgentCore) (heard : Result Heard OutOfMemory) → new.machine ≡ old.machine → new.has ≡ old.has
+    → IfOk heard (HearsAlike no_join replaced IsJoin report_of row_ledger (row_excess old.has) x old.up new.up) → IfOk heard (λ h. h.fresh ≡ false) → IfOk heard (AnswersAlike x old new)
+known_heard old x mine new (Ok heard) machine has hears known = λ r s. known_answers old x mine r s new heard machine has hears known
+known_heard old x mine new (Err fault) machine has hears known = tt

@@ -100,8 +100,10 @@ impl Agent {
     {
         let Agent { core } = self;
         let mut core = core;
-        let heard = core.hear(alloc, packet)?;
-        Ok((Agent { core }, heard))
+        match core.hear(alloc, packet) {
+            Ok(heard) => Ok((Agent { core }, heard)),
+            Err(fault) => Err(fault),
+        }
     }
 
     /// What the next turn sends: nothing where no master is known. It changes nothing. Where memory is refused there
@@ -185,8 +187,7 @@ impl Core {
             return Ok(STRANGER);
         }
         if packet.from.inc <= self.up.peer() {
-            let heard = self.up.hear(alloc, packet, &self.limit, &mut self.total)?;
-            return Ok(heard);
+            return self.up.hear(alloc, packet, &self.limit, &mut self.total);
         }
         let table = self.table().copy(alloc)?;
         let heard = self.up.hear(alloc, packet, &self.limit, &mut self.total)?;

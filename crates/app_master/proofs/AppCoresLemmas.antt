@@ -1,17 +1,24 @@
 -- A core that stands for an application still does after it heard a packet of the known master, and of a new one.
-use Rattle.std.proofs.Common.{◌≡◌, ℕ, ◌<◌, true, false, cond, nat_eq, List, length, sym, ◌∙◌, ap, subst}
+use Rattle.std.proofs.Common.{◌≡◌, ℕ, ◌<◌, true, false, cond, nat_eq, List, length, Result, Ok, Err, sym, ◌∙◌, ap, subst}
+use Rattle.std.specs.Prelude.{IfOk}
 use Rattle.fuxi_terms.specs.Lists.{below}
+use Rattle.fuxi_terms.specs.Tallies.{empty_tally}
+use Rattle.fuxi_terms.specs.TallyKeys.{greatest_demand}
+use Rattle.fuxi_terms.specs.declared.OutOfMemory.{OutOfMemory}
+use Rattle.ledger_law.specs.Shapes.{IsTally}
 use Rattle.fuxi_terms.proofs.Booleans.{both_true, number_is}
+use Rattle.party_ledgers.specs.declared.packets.Heard.{Heard}
 use Rattle.party_ledgers.specs.declared.packets.Packet.{Packet}
 use Rattle.written_net.specs.Net.{same_id}
 use Rattle.written_net.specs.Channels.{app_id, is_master}
-use Rattle.written_net.specs.Sides.{HeardSide, shown, appended}
-use Rattle.written_roles.specs.Apps.{AppRole, app_told, joined_demand, names, usable_of, carried_in, carry_of}
+use Rattle.written_net.specs.Sides.{HeardSide, hears_side, shown, appended}
+use Rattle.written_roles.specs.Apps.{AppRole, app_party, app_told, no_excess, joined_demand, names, usable_of, carried_in, carry_of}
 use Rattle.core_side.specs.Bodies.{tally_of}
-use Rattle.core_side.specs.Parcels.{packet_of}
+use Rattle.core_side.specs.Parcels.{packet_of, parcel_is}
+use Rattle.core_side.specs.CoreSides.{HearsAlike as SideHears}
 use Rattle.app_master.specs.Usable.{carried_at, is_named, usable_in}
-use Rattle.app_master.specs.AppCores.{AppCore, StandsFor, Up, IsUp}
-use Rattle.app_master.specs.AppPackets.{is_for}
+use Rattle.app_master.specs.AppCores.{AppCore, StandsFor, Up, IsUp, patched_demand}
+use Rattle.app_master.specs.AppPackets.{is_for, HearsAlike}
 use Rattle.app_master.proofs.CarriedLemmas.{carried_then}
 
 -- a packet that is for the application comes from a master
@@ -25,7 +32,7 @@ comes_to x a r s mine =
     (λ i. record { role = role i; number = number i }, parts.1)
 
 -- of the known master: nothing but the side changes
-pub stays : (a : AppCore) (up : Up) (steps : ℕ) (r : AppRole) (epoch : ℕ) (h : HeardSide) → h.fresh ≡ false → IsUp up r.boot h.side → StandsFor a r → StandsFor (record a { up = up; steps = steps }) (app_told r epoch h).role
+stays : (a : AppCore) (up : Up) (steps : ℕ) (r : AppRole) (epoch : ℕ) (h : HeardSide) → h.fresh ≡ false → IsUp up r.boot h.side → StandsFor a r → StandsFor (record a { up = up; steps = steps }) (app_told r epoch h).role
 stays a up steps r epoch h known side s = record {
   job = s.job;
   units = s.units;
@@ -34,6 +41,25 @@ stays a up steps r epoch h known side s = record {
   carried = λ u m lu lm. s.carried u m lu lm ∙ ap (λ b. carried_in (cond b (carry_of r.up.link r.up.got (shown r.up) r.boot r.units (below (length r.cluster.machines)) r.carried) r.carried) u m) (sym known);
   up = subst (λ b. IsUp up r.boot (cond b (appended false (joined_demand epoch (shown r.up)) h.side) h.side)) (sym known) side;
 }
+
+-- a packet of the known master is heard as the application by itself does
+known_hears : (a : AppCore) (x : Packet) (up : Up) (steps : ℕ) → is_for x a.job ≡ true → (heard : Heard) → SideHears empty_tally patched_demand (IsTally greatest_demand) tally_of tally_of no_excess x a.up up heard → heard.fresh ≡ false → HearsAlike a x (record a { up = up; steps = steps }, heard)
+known_hears a x up steps is heard hears known r s =
+    let mine = comes_to x a r s is in
+    let h = hears (app_party r) r.up s.up mine.0 in
+    let side = hears_side (app_party r) true no_excess r.up (parcel_is x) in
+    let role = stays a up steps r (parcel_is x).packet.from.inc side (sym h.fresh ∙ known) h.side s in
+    record {
+      role = subst (λ b. StandsFor (record a { up = up; steps = steps }) (app_told r (parcel_is x).packet.from.inc (hears_side (app_party r) b no_excess r.up (parcel_is x))).role) (sym mine.1) role;
+      fresh = h.fresh ∙ ap (λ b. (hears_side (app_party r) b no_excess r.up (parcel_is x)).fresh) (sym mine.1);
+      says = h.says ∙ ap (λ b. (hears_side (app_party r) b no_excess r.up (parcel_is x)).what) (sym mine.1);
+    }
+
+-- the same where it was heard
+pub known_heard : (a : AppCore) (x : Packet) (up : Up) (steps : ℕ) → is_for x a.job ≡ true → (heard : Result Heard OutOfMemory) → IfOk heard (SideHears empty_tally patched_demand (IsTally greatest_demand) tally_of tally_of no_excess x a.up up) → IfOk heard (λ h. h.fresh ≡ false)
+    → IfOk heard (λ h. HearsAlike a x (record a { up = up; steps = steps }, h))
+known_heard a x up steps is (Ok heard) hears known = known_hears a x up steps is heard hears known
+known_heard a x up steps is (Err fault) hears known = tt
 
 -- of a new one: what was held is carried, and the demand is appended
 pub joins : (a : AppCore) (up : Up) (counts : List (List ℕ)) (steps : ℕ) (r : AppRole) (epoch : ℕ) (h : HeardSide) → h.fresh ≡ true → IsUp up r.boot (appended false (joined_demand epoch (shown r.up)) h.side)

@@ -237,8 +237,10 @@ impl AppMaster {
     {
         let AppMaster { core } = self;
         let mut core = core;
-        let heard = core.hear(alloc, packet)?;
-        Ok((AppMaster { core }, heard))
+        match core.hear(alloc, packet) {
+            Ok(heard) => Ok((AppMaster { core }, heard)),
+            Err(fault) => Err(fault),
+        }
     }
 
     /// What the next turn sends. It changes nothing. Where memory is refused there are no packets.
@@ -465,8 +467,7 @@ impl Core {
             return Ok(STRANGER);
         }
         if packet.from.inc <= self.up.peer() {
-            let heard = self.up.hear(alloc, packet, &NoLimit, &mut ())?;
-            return Ok(heard);
+            return self.up.hear(alloc, packet, &NoLimit, &mut ());
         }
         self.carried
             .join(self.up.got(), self.up.sent(), self.up.own(), self.units);
