@@ -2,6 +2,7 @@
 
 ghost use Rattle.std.specs.Prelude.{◌≡◌, true, false, ◌+◌, ◌^◌, ◌<◌, ◌≤◌, ◌∷◌, [], nat_eq, slice_index, slice_index_or, IfOk, IfErr, Ok, Err, map, length};
 ghost use Rattle.std.specs.List.{list_all};
+ghost use Rattle.schedule_text.specs.declared.form.Place.TheVariants.{Count};
 ghost use Rattle.schedule_text.specs.LineForms.{heads, halt_shape, shape_of, as_shape};
 ghost use Rattle.schedule_text.specs.ReadEvents.{begins, has_count, own_count, is_unit, units_of, head_of, number_at, numbers_at, counts_at, most_at, ask_at, asks_at, event_behind, stop_of, halt_of, event_of_words, event_of, front, IsFault};
 ghost use Rattle.schedule_text.specs.Halting.{anywhere};
@@ -12,11 +13,11 @@ use crate::event::{Event, LineFault};
 use crate::form::{Form, HEADS, Head, Place, WRITING_HEADS, form_of, halt_form, heads_with};
 use crate::head::{LineHead, head_of};
 use crate::make::make_event;
-use crate::number::{begins_with, number_at, numbers_at};
+use crate::number::{begins_with, numbers_at};
 use crate::word::{few_words, words_of};
 use fuxi_terms::OutOfMemory;
 use fuxi_terms::limits::GREATEST_COUNT;
-use schedule_unit::{Ask, Asks, Quantities};
+use schedule_unit::{Ask, Asks, Quantities, read_number};
 use std::alloc::Global;
 
 /// The event of a line, which has no newline. The first test that fails decides: the first word, the second of a turn
@@ -242,6 +243,16 @@ fn halt_of(alloc: Global, words: &[&[u8]]) -> Result<Event, LineFault>
     }
 }
 
+// Any number, at a place of the line.
+fn count_at(place: usize, word: &[u8]) -> Result<u64, LineFault>
+    ensures { result ≡ number_at Count place 0 word.now }
+{
+    match read_number(word) {
+        Some(number) => Ok(number),
+        None => Err(LineFault::BadNumber(place as u64)),
+    }
+}
+
 // Any numbers, which stand from a place of the line on.
 fn quantities_at(alloc: Global, first: usize, words: &[&[u8]]) -> Result<Quantities, LineFault>
     requires { first + length words.now < 2 ^ 63 }
@@ -250,7 +261,7 @@ fn quantities_at(alloc: Global, first: usize, words: &[&[u8]]) -> Result<Quantit
 {
     let mut quantities = Quantities::new(alloc);
     for (index, word) in words.iter().enumerate() {
-        let quantity = match number_at(Place::Count, first + index, 0, word) {
+        let quantity = match count_at(first + index, word) {
             Ok(quantity) => quantity,
             Err(fault) => return Err(fault),
         };
@@ -268,7 +279,7 @@ fn most_at(place: usize, bound: &[&[u8]]) -> Result<u64, LineFault>
     ensures { result ≡ most_at place (map (λ w. w.now) bound.now) }
 {
     match bound {
-        [_, word, ..] => number_at(Place::Count, place + 1, 0, word),
+        [_, word, ..] => count_at(place + 1, word),
         _ => Ok(GREATEST_COUNT),
     }
 }
@@ -283,7 +294,7 @@ fn own_at(alloc: Global, first: usize, words: &[&[u8]]) -> Result<(u64, Quantiti
     let [word, others @ ..] = words else {
         unreachable!()
     };
-    let priority = number_at(Place::Count, first, 0, word)?;
+    let priority = count_at(first, word)?;
     let quantities = quantities_at(alloc, first + 1, others)?;
     Ok((priority, quantities))
 }

@@ -47,7 +47,7 @@ fn put_part<'a>(few: &mut [&'a [u8]; 8], count: usize, part: &'a [u8]) -> Option
     if part.is_empty() {
         return Some(count);
     }
-    if count == 8 {
+    if count >= 8 {
         return None;
     }
     few[count] = part;
