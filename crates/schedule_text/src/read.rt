@@ -4,7 +4,7 @@ ghost use Rattle.std.specs.Prelude.{◌≡◌, true, false, ◌+◌, ◌^◌, �
 ghost use Rattle.std.specs.List.{list_all};
 ghost use Rattle.schedule_text.specs.declared.form.Place.TheVariants.{Count};
 ghost use Rattle.schedule_text.specs.LineForms.{heads, halt_shape, shape_of, as_shape};
-ghost use Rattle.schedule_text.specs.ReadEvents.{begins, has_count, own_count, is_unit, units_of, head_of, number_at, numbers_at, counts_at, most_at, ask_at, asks_at, event_behind, stop_of, halt_of, event_of_words, event_of, front, IsFault};
+ghost use Rattle.schedule_text.specs.ReadEvents.{begins, has_count, own_count, is_unit, units_of, head_of, number_at, numbers_at, counts_at, most_at, ask_at, asks_at, asks_of, event_behind, stop_of, halt_of, event_of_words, event_of, front, IsFault};
 ghost use Rattle.schedule_text.specs.Halting.{anywhere};
 ghost use Rattle.schedule_text.specs.Words.{words_of};
 ghost use Rattle.schedule_text.specs.Writing.{IsLineEvent};
@@ -32,7 +32,7 @@ pub fn read_event(alloc: Global, line: &[u8]) -> Result<Event, LineFault>
     event_of(alloc, line)
 }
 
-// The same.
+// The event of a line, whose words want no memory where they are few.
 fn event_of(alloc: Global, line: &[u8]) -> Result<Event, LineFault>
     ensures ok { IfOk result (λ event. event_of line.now ≡ Ok (anywhere event)) }
     ensures fault { IfErr result (IsFault (event_of line.now)) }
@@ -43,7 +43,7 @@ fn event_of(alloc: Global, line: &[u8]) -> Result<Event, LineFault>
     event_in(alloc, words)
 }
 
-// The words of a line, in these places where they are few, which wants no memory, and else in the list.
+// The words of a line, in these places where they are few, and else in the list.
 fn words_in<'a, 'b>(
     alloc: Global,
     line: &'a [u8],
@@ -190,15 +190,25 @@ fn event_behind(
     let count = form.places.len();
     let numbers = numbers_at(form.places, first + form.words.len(), behind)?;
     let (numbers, _) = numbers.as_slice().split_at(count);
-    if !form.units {
-        return Ok(make_event(head, numbers, Asks::new(alloc)));
-    }
-    let front = form.words.len() + count;
-    let (_, units) = words.split_at(front);
-    match asks_at(alloc, first + front, units) {
+    match asks_of(alloc, &form, first, words) {
         Ok(asks) => Ok(make_event(head, numbers, asks)),
         Err(fault) => Err(fault),
     }
+}
+
+// The units behind the numbers, where the line has units.
+fn asks_of(alloc: Global, form: &Form, first: usize, words: &[&[u8]]) -> Result<Asks, LineFault>
+    requires count { has_count (as_shape form.now) (map (λ w. w.now) words.now) ≡ true }
+    requires range { first + length words.now < 2 ^ 61 }
+    ensures ok { IfOk result (λ asks. asks_of (as_shape form.now) first (map (λ w. w.now) words.now) ≡ Ok asks) }
+    ensures fault { IfErr result (IsFault (asks_of (as_shape form.now) first (map (λ w. w.now) words.now))) }
+{
+    if !form.units {
+        return Ok(Asks::new(alloc));
+    }
+    let front = form.words.len() + form.places.len();
+    let (_, units) = words.split_at(front);
+    asks_at(alloc, first + front, units)
 }
 
 // The numbers of a stop within a writing, behind its word.
