@@ -48,8 +48,8 @@ fn are_paired(a: &[u8], b: &[u8]) -> bool
     a.iter().zip(b).all(|(x, y)| *x == *y)
 }
 
-/// The number at a place of the line, with the number before it.
-pub fn number_at<P: NumberPlace>(
+// The number at a place of the line, with the number before it.
+fn number_at<P: NumberPlace>(
     kind: P,
     place: usize,
     before: u64,

@@ -2,8 +2,9 @@
 
 ghost use Rattle.std.specs.Prelude.{◌≡◌, true, false, ◌+◌, ◌^◌, ◌<◌, ◌≤◌, ◌∷◌, [], nat_eq, slice_index, slice_index_or, IfOk, IfErr, Ok, Err, map, length};
 ghost use Rattle.std.specs.List.{list_all};
+ghost use Rattle.schedule_text.specs.declared.form.Place.TheVariants.{Count};
 ghost use Rattle.schedule_text.specs.LineForms.{heads, halt_shape, shape_of, as_shape};
-ghost use Rattle.schedule_text.specs.ReadEvents.{begins, has_count, own_count, is_unit, units_of, head_of, number_at, numbers_at, counts_at, most_at, ask_at, asks_at, event_behind, stop_of, halt_of, event_of_words, event_of, front, IsFault};
+ghost use Rattle.schedule_text.specs.ReadEvents.{begins, has_count, own_count, is_unit, units_of, head_of, number_at, numbers_at, counts_at, most_at, ask_at, asks_at, asks_of, event_behind, stop_of, halt_of, event_of_words, event_of, front, IsFault};
 ghost use Rattle.schedule_text.specs.Halting.{anywhere};
 ghost use Rattle.schedule_text.specs.Words.{words_of};
 ghost use Rattle.schedule_text.specs.Writing.{IsLineEvent};
@@ -12,11 +13,11 @@ use crate::event::{Event, LineFault};
 use crate::form::{Form, HEADS, Head, Place, WRITING_HEADS, form_of, halt_form, heads_with};
 use crate::head::{LineHead, head_of};
 use crate::make::make_event;
-use crate::number::{begins_with, number_at, numbers_at};
+use crate::number::{begins_with, numbers_at};
 use crate::word::{few_words, words_of};
 use fuxi_terms::OutOfMemory;
 use fuxi_terms::limits::GREATEST_COUNT;
-use schedule_unit::{Ask, Asks, Quantities};
+use schedule_unit::{Ask, Asks, Quantities, read_number};
 use std::alloc::Global;
 
 /// The event of a line, which has no newline. The first test that fails decides: the first word, the second of a turn
@@ -31,7 +32,7 @@ pub fn read_event(alloc: Global, line: &[u8]) -> Result<Event, LineFault>
     event_of(alloc, line)
 }
 
-// The same.
+// The event of a line, whose words want no memory where they are few.
 fn event_of(alloc: Global, line: &[u8]) -> Result<Event, LineFault>
     ensures ok { IfOk result (λ event. event_of line.now ≡ Ok (anywhere event)) }
     ensures fault { IfErr result (IsFault (event_of line.now)) }
@@ -42,7 +43,7 @@ fn event_of(alloc: Global, line: &[u8]) -> Result<Event, LineFault>
     event_in(alloc, words)
 }
 
-// The words of a line, in these places where they are few, which wants no memory, and else in the list.
+// The words of a line, in these places where they are few, and else in the list.
 fn words_in<'a, 'b>(
     alloc: Global,
     line: &'a [u8],
@@ -189,15 +190,25 @@ fn event_behind(
     let count = form.places.len();
     let numbers = numbers_at(form.places, first + form.words.len(), behind)?;
     let (numbers, _) = numbers.as_slice().split_at(count);
-    if !form.units {
-        return Ok(make_event(head, numbers, Asks::new(alloc)));
-    }
-    let front = form.words.len() + count;
-    let (_, units) = words.split_at(front);
-    match asks_at(alloc, first + front, units) {
+    match asks_of(alloc, &form, first, words) {
         Ok(asks) => Ok(make_event(head, numbers, asks)),
         Err(fault) => Err(fault),
     }
+}
+
+// The units behind the numbers, where the line has units.
+fn asks_of(alloc: Global, form: &Form, first: usize, words: &[&[u8]]) -> Result<Asks, LineFault>
+    requires count { has_count (as_shape form.now) (map (λ w. w.now) words.now) ≡ true }
+    requires range { first + length words.now < 2 ^ 61 }
+    ensures ok { IfOk result (λ asks. asks_of (as_shape form.now) first (map (λ w. w.now) words.now) ≡ Ok asks) }
+    ensures fault { IfErr result (IsFault (asks_of (as_shape form.now) first (map (λ w. w.now) words.now))) }
+{
+    if !form.units {
+        return Ok(Asks::new(alloc));
+    }
+    let front = form.words.len() + form.places.len();
+    let (_, units) = words.split_at(front);
+    asks_at(alloc, first + front, units)
 }
 
 // The numbers of a stop within a writing, behind its word.
@@ -242,6 +253,16 @@ fn halt_of(alloc: Global, words: &[&[u8]]) -> Result<Event, LineFault>
     }
 }
 
+// Any number, at a place of the line.
+fn count_at(place: usize, word: &[u8]) -> Result<u64, LineFault>
+    ensures { result ≡ number_at Count place 0 word.now }
+{
+    match read_number(word) {
+        Some(number) => Ok(number),
+        None => Err(LineFault::BadNumber(place as u64)),
+    }
+}
+
 // Any numbers, which stand from a place of the line on.
 fn quantities_at(alloc: Global, first: usize, words: &[&[u8]]) -> Result<Quantities, LineFault>
     requires { first + length words.now < 2 ^ 63 }
@@ -250,7 +271,7 @@ fn quantities_at(alloc: Global, first: usize, words: &[&[u8]]) -> Result<Quantit
 {
     let mut quantities = Quantities::new(alloc);
     for (index, word) in words.iter().enumerate() {
-        let quantity = match number_at(Place::Count, first + index, 0, word) {
+        let quantity = match count_at(first + index, word) {
             Ok(quantity) => quantity,
             Err(fault) => return Err(fault),
         };
@@ -268,7 +289,7 @@ fn most_at(place: usize, bound: &[&[u8]]) -> Result<u64, LineFault>
     ensures { result ≡ most_at place (map (λ w. w.now) bound.now) }
 {
     match bound {
-        [_, word, ..] => number_at(Place::Count, place + 1, 0, word),
+        [_, word, ..] => count_at(place + 1, word),
         _ => Ok(GREATEST_COUNT),
     }
 }
@@ -283,7 +304,7 @@ fn own_at(alloc: Global, first: usize, words: &[&[u8]]) -> Result<(u64, Quantiti
     let [word, others @ ..] = words else {
         unreachable!()
     };
-    let priority = number_at(Place::Count, first, 0, word)?;
+    let priority = count_at(first, word)?;
     let quantities = quantities_at(alloc, first + 1, others)?;
     Ok((priority, quantities))
 }

@@ -1,8 +1,8 @@
 //! The words of a line.
 
-ghost use Rattle.std.specs.Prelude.{◌≡◌, ◌≤◌, ◌==◌, ◌∷◌, [], not, IfOk, IfSome, IfNone, length, map, take};
+ghost use Rattle.std.specs.Prelude.{◌≡◌, ◌≤◌, ◌==◌, ◌++◌, ◌∷◌, [], IfOk, IfSome, filter, length, map, take};
 ghost use Rattle.std.specs.List.{position, position_or_len};
-ghost use Rattle.schedule_text.specs.Words.{words_of};
+ghost use Rattle.schedule_text.specs.Words.{is_word, words_of};
 
 use fuxi_terms::OutOfMemory;
 use std::alloc::Global;
@@ -24,40 +24,34 @@ pub fn few_words<'a>(line: &'a [u8], few: &mut [&'a [u8]; 8]) -> Option<usize>
     ensures words { IfSome result (λ count. (count ≤ 8) × (map (λ w. w.now) (take count few.new) ≡ words_of line.now)) }
 {
     let mut rest = line;
-    for count in 0..8 {
-        match next_word(rest) {
-            None => return Some(count),
-            Some((word, behind)) => {
-                few[count] = word;
-                rest = behind;
-            }
+    let mut count = 0;
+    loop {
+        let (part, behind) = rest.split_at(part_length(rest));
+        match put_part(few, count, part) {
+            Some(more) => count = more,
+            None => return None,
         }
-    }
-    match next_word(rest) {
-        None => Some(8),
-        Some(_) => None,
-    }
-}
-
-// The first word, and what stands behind it.
-fn next_word(rest: &[u8]) -> Option<(&[u8], &[u8])>
-    ensures some { IfSome result (λ first. words_of rest.now ≡ first.0.now ∷ words_of first.1.now) }
-    ensures none { IfNone result (words_of rest.now ≡ []) }
-{
-    match first_letter(rest) {
-        None => None,
-        Some(blanks) => {
-            let (_, behind) = rest.split_at(blanks);
-            Some(behind.split_at(word_length(behind)))
+        match behind {
+            [_, left @ ..] => rest = left,
+            [] => return Some(count),
         }
     }
 }
 
-// Where the first byte stands that is no blank.
-fn first_letter(rest: &[u8]) -> Option<usize>
-    ensures { result ≡ position (λ b. not (b == 32)) rest.now }
+// A part between blanks goes behind the words that are there, where it is a word; None where there is no place for it.
+fn put_part<'a>(few: &mut [&'a [u8]; 8], count: usize, part: &'a [u8]) -> Option<usize>
+    requires { count ≤ 8 }
+    ensures places { length few.new ≡ 8 }
+    ensures words { IfSome result (λ more. (more ≤ 8) × (map (λ w. w.now) (take more few.new) ≡ map (λ w. w.now) (take count few.old) ++ filter is_word (part.now ∷ []))) }
 {
-    rest.iter().position(|byte| *byte != b' ')
+    if part.is_empty() {
+        return Some(count);
+    }
+    if count >= 8 {
+        return None;
+    }
+    few[count] = part;
+    Some(count + 1)
 }
 
 fn first_blank(rest: &[u8]) -> Option<usize>
@@ -67,7 +61,7 @@ fn first_blank(rest: &[u8]) -> Option<usize>
 }
 
 // How many bytes stand before the first blank.
-fn word_length(rest: &[u8]) -> usize
+fn part_length(rest: &[u8]) -> usize
     ensures { result ≡ position_or_len (λ b. b == 32) rest.now }
 {
     match first_blank(rest) {
