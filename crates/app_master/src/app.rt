@@ -514,10 +514,10 @@ fn racks_of(cluster: &Cluster) -> [bool; MOST_RACKS as usize]
     ensures long { length result ≡ 64 }
     ensures racks { (n : ℕ) → get_or result n false ≡ has_rack cluster.now n }
 {
-    let machines = cluster.machines();
     let mut racks = [false; MOST_RACKS as usize];
-    for number in 0..MOST_RACKS {
-        racks[number as usize] = cluster.has_rack(RackNo(number));
+    for number in 0..cluster.machines() {
+        let rack = cluster.machine(MachineNo(number)).rack;
+        racks[rack.0 as usize] = true;
     }
     racks
 }
