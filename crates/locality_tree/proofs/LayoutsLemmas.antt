@@ -84,7 +84,7 @@ listed law at spare queues slots sets kept n k e h = by (slot_in slots n k) refl
     by : (o : Option Slot) → slot_in slots n k ≡ o → entry_in at o ≡ Some e → Listed at slots (kept.lists k) n k e
     by None f g = absurd (none_some (entry_in at None) e refl g)
     by (Some s) f g =
-        let d : Queue = record { key_first = true; first = None; last = None } in
+        let d : Queue = record { key_first = true; first = None; ends = [] } in
         let q = kept.queues_stand k d (slot_queued at spare queues slots sets kept n k s f) in
         let i = q.all n s f in
         let same : i.0 ≡ e = same_entry (entry_at at s) i.0 e (member_entry law at (get_or queues k d) (kept.lists k) q.stands (s, i.0) i.1) g in
@@ -343,7 +343,7 @@ turned_not at slots e place stands m h = record {
 -- what stands at a unit's slot is its entry
 pub entry_here : Entries → (at : Slot → Option Node) (spare : ℕ) (queues : List Queue) (slots : Slots) (sets : List NumberSet) (e : Entry) (place : ℕ) (s : Slot) (kept : AreKept at spare queues slots sets) → EntryFits at (length queues) slots e place → slot_in slots (number_of e) place ≡ Some s → entry_in at (slot_in slots (number_of e) place) ≡ Some e
 entry_here law at spare queues slots sets e place s kept fits some =
-    let d : Queue = record { key_first = true; first = None; last = None } in
+    let d : Queue = record { key_first = true; first = None; ends = [] } in
     let q = kept.queues_stand place d fits.queued in
     let i = q.all (number_of e) s some in
     let there : entry_in at (slot_in slots (number_of e) place) ≡ Some i.0 = ap (entry_in at) some ∙ member_entry law at (get_or queues place d) (kept.lists place) q.stands (s, i.0) i.1 in

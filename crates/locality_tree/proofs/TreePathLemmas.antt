@@ -78,7 +78,7 @@ some_is (Some s) h = (s, refl)
 
 module _ (law : Entries) (racks : List ℕ) (p : Layout) (t : IsTree racks p) (m : ℕ) (inside : m < length racks) where
   abbrev pub any_queue : Queue
-  any_queue = record { key_first = true; first = None; last = None }
+  any_queue = record { key_first = true; first = None; ends = [] }
 
   abbrev pub map_of : Slot → Option Node
   map_of = value_at p.pool

@@ -65,7 +65,7 @@ with_units racks us = record { racks = racks; units = us }
 -- an entry that waits fits every place
 pub waiting_fits : Entries → (racks : List ℕ) (p : Layout) (t : IsTree racks p) (e : Entry) (place : ℕ) → entry_in (value_at p.pool) (slot_in (slots_of p.slots.items) (number_of e) (cluster_place racks)) ≡ Some e → place < length p.queues.items → EntryFitsIn p e place
 waiting_fits law racks p t e place there queued =
-    let d : Queue = record { key_first = true; first = None; last = None } in
+    let d : Queue = record { key_first = true; first = None; ends = [] } in
     let last : ℕ = cluster_place racks in
     let count = t.queue_count in
     let l = listed law (value_at p.pool) p.pool.spare p.queues.items (slots_of p.slots.items) p.sets.items t.kept (number_of e) last e there in

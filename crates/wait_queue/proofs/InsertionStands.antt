@@ -1,5 +1,5 @@
 -- A queue into which an entry was put at its place stands as the list with it.
-use Rattle.std.proofs.Common.{◌≡◌, ◌≢◌, Bool, true, cond, List, [], ◌∷◌, ◌++◌, Option, Some, None, is_some, IsSome, refl, sym, ap, subst, ◌∙◌}
+use Rattle.std.proofs.Common.{◌≡◌, ◌≢◌, ℕ, ◌<◌, Bool, true, cond, List, [], ◌∷◌, ◌++◌, length, get_or, set, Option, Some, None, is_some, IsSome, refl, sym, ap, subst, ◌∙◌}
 use Rattle.std.specs.Prelude.{IfSome}
 use Rattle.std.specs.List.{AllByRecursion}
 use Rattle.fuxi_terms.proofs.Alls.{all_more, all_append, all_front, all_back}
@@ -7,10 +7,11 @@ use Rattle.slot_pool.specs.declared.pool.Slot.{Slot}
 use Rattle.wait_queue.specs.declared.node.Entry.{Entry}
 use Rattle.wait_queue.specs.declared.node.Node.{Node}
 use Rattle.wait_queue.specs.declared.queue.Queue.{Queue}
-use Rattle.wait_queue.specs.Queues.{Item, is_before, IsInRange, AreBehind, IsInOrder, IsOutside, first_of, last_of, link, AreLinked, Stands, IsPlace}
-use Rattle.wait_queue.specs.Neighbours.{Relinked, with_behind, with_before, Follows, Walks}
-use Rattle.wait_queue.proofs.QueuesLemmas.{order_distinct, order_parts, order_append, linked_parts, linked_append, linked_same, first_append, last_append, first_live, last_live, outside_absent}
-use Rattle.wait_queue.proofs.NeighboursLemmas.{AreParted, parted, back_stays, AreTied, tied, follows_last, first_tied, last_tied}
+use Rattle.wait_queue.specs.Queues.{Item, is_before, IsInRange, AreBehind, IsInOrder, IsOutside, first_of, last_of, band, band_end, link, AreLinked, Stands, IsPlace}
+use Rattle.wait_queue.specs.Neighbours.{Relinked, with_behind, with_before, Follows, has_band}
+use Rattle.wait_queue.proofs.QueuesLemmas.{order_distinct, order_parts, order_append, linked_parts, linked_append, linked_same, first_append, first_live, last_live, outside_absent}
+use Rattle.wait_queue.proofs.NeighboursLemmas.{AreParted, parted, back_stays, AreTied, tied, follows_last, first_tied}
+use Rattle.wait_queue.proofs.BandEndsLemmas.{ends_with}
 
 -- what is known of both sides of a place, once a node stands at a slot that was not live
 pub record BesidePlace (put : Slot → Option Node) (front : List Item) (s : Slot) (back : List Item) : Type 0 where
@@ -31,11 +32,8 @@ beside_place at put q e front s back p absent kept =
       outside = outside;
     }
 
--- a place is where the walk from the last slot ends, and what stands behind it is known by the node before it
+-- what stands before a place is live, and what stands behind it is known by the node before it
 module _ (at : Slot → Option Node) (q : Queue) (e : Entry) (front back : List Item) (p : IsPlace at q e front back) where
-  pub walk_to_place : Walks at q.last q.key_first e front back None
-  walk_to_place = record { linked = p.stands.linked; starts = p.stands.ends; ordered = p.stands.ordered; in_range = p.stands.in_range; front_before = p.front_before; middle_behind = p.back_behind }
-
   pub before_live : (before : Option Slot) → before ≡ last_of None front → IfSome before (λ t. IsSome (at t))
   before_live before b = subst (λ (o : Option Slot). IfSome o (λ t. IsSome (at t))) (sym b) (last_live at None front (first_of back None) (linked_parts at None front back None p.stands.linked).0)
 
@@ -44,10 +42,13 @@ module _ (at : Slot → Option Node) (q : Queue) (e : Entry) (front back : List 
       (subst (λ (o : Option Slot). Follows at o q.first (first_of back None)) (sym b) (follows_last at q.first None front back None p.stands.linked p.stands.starts))
       (first_live at (last_of None front) back None (linked_parts at None front back None p.stands.linked).1)
 
--- both neighbours are live when they are tied
+-- both neighbours are live when the end of the band is set and when they are tied
 module _ (at put : Slot → Option Node) (q : Queue) (e : Entry) (front : List Item) (s : Slot) (back : List Item) (p : IsPlace at q e front back) (absent : at s ≡ None) (kept : (t : Slot) → t ≢ s → put t ≡ at t) where
   pub before_tied : (before : Option Slot) → before ≡ last_of None front → IfSome before (λ t. IsSome (put t))
   before_tied before b = subst (λ (o : Option Slot). IfSome o (λ t. IsSome (put t))) (sym b) (last_live put None front (first_of back None) (beside_place at put q e front s back p absent kept).front_linked)
+
+  pub behind_put : (behind : Option Slot) → behind ≡ first_of back None → IfSome behind (λ t. IsSome (put t))
+  behind_put behind f = subst (λ (o : Option Slot). IfSome o (λ t. IsSome (put t))) (sym f) (first_live put (last_of None front) back None (beside_place at put q e front s back p absent kept).back_linked)
 
   pub behind_tied : (between : Slot → Option Node) (before behind : Option Slot) (change : Node → Node) → before ≡ last_of None front → behind ≡ first_of back None → Relinked put between before change → IfSome behind (λ t. IsSome (between t))
   behind_tied between before behind change b f one =
@@ -64,7 +65,8 @@ pub record Inserts (at put between after : Slot → Option Node) (q more : Queue
   pub two : Relinked between after behind (with_before (Some s))
   pub key_first : more.key_first ≡ q.key_first
   pub first : more.first ≡ cond (is_some before) q.first (Some s)
-  pub last : more.last ≡ cond (is_some behind) q.last (Some s)
+  pub long : band q.key_first e < length q.ends
+  pub ends : more.ends ≡ cond (has_band put q.key_first (band q.key_first e) behind) q.ends (set q.ends (band q.key_first e) (Some s))
 
 module _ (at put between after : Slot → Option Node) (q more : Queue) (s : Slot) (e : Entry) (before behind : Option Slot) (r : Inserts at put between after q more s e before behind)
     (front back : List Item) (p : IsPlace at q e front back) (is_before_last : before ≡ last_of None front) (is_behind_first : behind ≡ first_of back None) where
@@ -88,8 +90,9 @@ module _ (at put between after : Slot → Option Node) (q more : Queue) (s : Slo
         linked = linked_append after None front ((s, e) ∷ back) None ties.front_linked (node_stands, ties.back_linked);
         starts = r.first ∙ ap (λ (o : Option Slot). cond (is_some o) q.first (Some s)) is_before_last
             ∙ first_tied front q.first (Some s) (first_of back None) (Some s) (p.stands.starts ∙ first_append front back None) refl ∙ sym (first_append front ((s, e) ∷ back) None);
-        ends = r.last ∙ ap (λ (o : Option Slot). cond (is_some o) q.last (Some s)) is_behind_first
-            ∙ last_tied back q.last (Some s) (last_of None front) (Some s) (p.stands.ends ∙ last_append None front back) refl ∙ sym (last_append None front ((s, e) ∷ back));
+        ends = subst (λ (k : Bool). (b : ℕ) → get_or more.ends b None ≡ band_end k b None (front ++ (s, e) ∷ back)) (sym r.key_first)
+            (ends_with put q.key_first q.ends more.ends front s e back (last_of None front) sides.back_linked p.back_behind order.1 r.long p.stands.ends
+            (r.ends ∙ ap (λ (o : Option Slot). cond (has_band put q.key_first (band q.key_first e) o) q.ends (set q.ends (band q.key_first e) (Some s))) is_behind_first));
         ordered = subst (λ (k : Bool). IsInOrder k (front ++ (s, e) ∷ back)) (sym r.key_first)
             (order_append q.key_first front ((s, e) ∷ back) order.0 (p.back_behind, order.1) (both front p.front_before order.2));
         in_range = all_append (λ (i : Item). IsInRange i.1) front ((s, e) ∷ back) (all_front (λ (i : Item). IsInRange i.1) front back p.stands.in_range) (range, all_back (λ (i : Item). IsInRange i.1) front back p.stands.in_range);

@@ -1,3 +1,4 @@
+pub mod BandEndsLemmas
 pub mod InsertionStands
 pub mod NeighboursLemmas
 pub mod QueuesLemmas

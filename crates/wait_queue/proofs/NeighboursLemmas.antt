@@ -70,7 +70,7 @@ pub follows_last : (at : Slot → Option Node) (first b : Option Slot) (front ba
 follows_last at first b [] back f h g = g
 follows_last at first b (x ∷ xs) back f h g = follows_last at first (Some x.0) xs back f h.1 (λ n is. ap (λ (m : Node). m.behind) (same_Some n _ (sym is ∙ h.0)))
 
--- the ends of the queue after the ties
+-- what stands first after the ties
 pub first_tied : (front : List Item) (first here n m : Option Slot) → first ≡ first_of front n → here ≡ m → cond (is_some (last_of None front)) first here ≡ first_of front m
 first_tied [] first here n m h e = e
 first_tied (x ∷ xs) first here n m h e = ap (λ b. cond b first here) (last_some xs x.0) ∙ h
@@ -78,7 +78,3 @@ first_tied (x ∷ xs) first here n m h e = ap (λ b. cond b first here) (last_so
     last_some : (zs : List Item) (s : Slot) → is_some (last_of (Some s) zs) ≡ true
     last_some [] s = refl
     last_some (z ∷ zs) s = last_some zs z.0
-
-pub last_tied : (back : List Item) (last here b c : Option Slot) → last ≡ last_of b back → here ≡ c → cond (is_some (first_of back None)) last here ≡ last_of c back
-last_tied [] last here b c h e = e
-last_tied (x ∷ xs) last here b c h e = h

@@ -29,7 +29,7 @@ walk_left at k None = 0
 walk_left at k (Some s) = entry_left k (entry_at at s)
 
 -- a list is empty or has a last item
-ends : (xs : List Item) → (xs ≡ []) ⊎ ((ys : List Item) × ((x : Item) × (xs ≡ ys ++ x ∷ [])))
+pub ends : (xs : List Item) → (xs ≡ []) ⊎ ((ys : List Item) × ((x : Item) × (xs ≡ ys ++ x ∷ [])))
 ends [] = inl refl
 ends (x ∷ xs) = elim (ends xs) as (λ _. (x ∷ xs ≡ []) ⊎ ((ys : List Item) × ((z : Item) × (x ∷ xs ≡ ys ++ z ∷ [])))) [
   | inl e ↦ inr ([], (x, ap (λ (l : List Item). x ∷ l) e))

@@ -1,10 +1,10 @@
 -- A tie of a node to a neighbour, and a walk from neighbour to neighbour. No public clause cites this module.
-use Rattle.std.specs.Prelude.{◌≡◌, ◌≢◌, Bool, List, ◌++◌, Option, Some, None}
+use Rattle.std.specs.Prelude.{◌≡◌, ◌≢◌, ℕ, Bool, false, nat_eq, List, [], ◌∷◌, ◌++◌, Option, Some, None}
 use Rattle.std.specs.List.{AllByRecursion}
 use Rattle.slot_pool.specs.declared.pool.Slot.{Slot}
 use Rattle.wait_queue.specs.declared.node.Entry.{Entry}
 use Rattle.wait_queue.specs.declared.node.Node.{Node}
-use Rattle.wait_queue.specs.Queues.{Item, IsInRange, AreBefore, AreBehind, IsInOrder, last_of, link, AreLinked}
+use Rattle.wait_queue.specs.Queues.{Item, IsInRange, AreBefore, AreBehind, IsInOrder, last_of, band, link, entry_at, AreLinked}
 
 -- What a tie changes: the node at one slot, where there is one.
 pub record Relinked (before after : Slot → Option Node) (slot : Option Slot) (change : Node → Node) : Type 0 where
@@ -21,6 +21,21 @@ with_before before n = record n { before = link before }
 abbrev pub Follows : (Slot → Option Node) → Option Slot → Option Slot → Option Slot → Type 0
 Follows at None first next = first ≡ next
 Follows at (Some s) first next = (n : Node) → at s ≡ Some n → n.behind ≡ link next
+
+-- whether an entry of the band stands at the slot, where there is one
+abbrev pub is_in : Bool → ℕ → Option Entry → Bool
+is_in key_first b None = false
+is_in key_first b (Some e) = nat_eq (band key_first e) b
+
+abbrev pub has_band : (Slot → Option Node) → Bool → ℕ → Option Slot → Bool
+has_band at key_first b None = false
+has_band at key_first b (Some s) = is_in key_first b (entry_at at s)
+
+-- the first slot that there is
+abbrev pub nearest : List (Option Slot) → Option Slot
+nearest [] = None
+nearest (None ∷ rest) = nearest rest
+nearest (Some s ∷ rest) = Some s
 
 -- A walk back from a slot: the nodes up to there are linked and in order, the front ones stand before the entry and the middle ones behind it.
 pub record Walks (at : Slot → Option Node) (start : Option Slot) (key_first : Bool) (e : Entry) (front middle : List Item) (next : Option Slot) : Type 0 where

@@ -1,5 +1,5 @@
 -- Queues as lists of slots and entries, and how they stand in a pool.
-use Rattle.std.specs.Prelude.{◌≡◌, ◌≢◌, ℕ, ◌+◌, ◌*◌, ◌-◌, ◌<◌, ◌^◌, ⊤, Bool, true, cond, nat_eq, nat_lt, List, [], ◌∷◌, ◌++◌, Option, Some, None, option_map}
+use Rattle.std.specs.Prelude.{◌≡◌, ◌≢◌, ℕ, ◌+◌, ◌*◌, ◌-◌, ◌<◌, ◌^◌, ⊤, Bool, true, cond, nat_eq, nat_lt, min, List, [], ◌∷◌, ◌++◌, get_or, Option, Some, None, option_map}
 use Rattle.std.specs.List.{AllByRecursion}
 use Rattle.slot_pool.specs.declared.pool.Slot.{Slot}
 use Rattle.wait_queue.specs.declared.node.Entry.{Entry}
@@ -49,6 +49,15 @@ abbrev pub last_of : Option Slot → List Item → Option Slot
 last_of before [] = before
 last_of before (i ∷ is) = last_of (Some i.0) is
 
+-- the band of an entry among ten: its priority, and one band for all from 9 on; a single band where only turns count
+abbrev pub band : Bool → Entry → ℕ
+band key_first e = cond key_first (min e.priority 9) 0
+
+-- the last slot of a band, and where there is none this one
+abbrev pub band_end : Bool → ℕ → Option Slot → List Item → Option Slot
+band_end key_first b found [] = found
+band_end key_first b found (i ∷ is) = band_end key_first b (cond (nat_eq (band key_first i.1) b) (Some i.0) found) is
+
 -- A node links to its neighbours by their numbers.
 abbrev pub link : Option Slot → Option ℕ
 link slot = option_map (λ (s : Slot). s.number) slot
@@ -62,11 +71,11 @@ abbrev pub AreLinked : (Slot → Option Node) → Option Slot → List Item → 
 AreLinked at before [] next = ⊤
 AreLinked at before (i ∷ is) next = (at i.0 ≡ Some (record { entry = i.1; before = link before; behind = link (first_of is next) })) × AreLinked at (Some i.0) is next
 
--- A queue stands in a pool as a list of slots and entries: the slots are live and their nodes hold these entries and links, and the entries are in order.
+-- A queue stands in a pool as a list of slots and entries: the slots are live and their nodes hold these entries and links, and the entries are in order; the queue knows the last slot of each band.
 pub record Stands (at : Slot → Option Node) (q : Queue) (items : List Item) : Type 0 where
   pub linked : AreLinked at None items None
   pub starts : q.first ≡ first_of items None
-  pub ends : q.last ≡ last_of None items
+  pub ends : (b : ℕ) → get_or q.ends b None ≡ band_end q.key_first b None items
   pub ordered : IsInOrder q.key_first items
   pub in_range : AllByRecursion (λ (i : Item). IsInRange i.1) items
 

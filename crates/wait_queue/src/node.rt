@@ -1,13 +1,16 @@
 //! The nodes of queues, and how one of them is tied to another.
 
-ghost use Rattle.std.specs.Prelude.{◌≡◌, ◌≢◌, ℕ, IsSome, IfSome, Some, None, Option, List, cond, is_some};
+ghost use Rattle.std.specs.Prelude.{◌≡◌, ◌≢◌, ◌<◌, ℕ, IsSome, IfSome, Some, None, Option, List, cond, drop, is_some, set};
 ghost use Rattle.slot_pool.specs.Pools.{value_at};
 ghost use Rattle.slot_pool.specs.declared.pool.Slot.{Slot as SlotRecord};
-ghost use Rattle.wait_queue.specs.Queues.{Item, is_before, last_of, link, IsInRange};
-ghost use Rattle.wait_queue.specs.Neighbours.{CanWalk, Walks, Follows, Relinked, with_behind, with_before};
+ghost use Rattle.wait_queue.specs.Queues.{Item, is_before, band, last_of, link, IsInRange};
+ghost use Rattle.wait_queue.specs.Neighbours.{CanWalk, Walks, Follows, Relinked, with_behind, with_before, has_band, nearest};
 
 use schedule_unit::{AppNo, UnitNo};
 use slot_pool::{Pool, Slot};
+
+/// So many bands of priorities have an end of their own in a queue.
+pub(crate) const BANDS: usize = 10;
 
 /// A unit that waits, with its priority and the number that it got when it began to wait.
 #[derive(Clone, Copy, Debug, PartialEq, Eq)]
@@ -47,6 +50,29 @@ fn stands_before(key_first: bool, one: &Entry, other: &Entry) -> bool
         return one.priority > other.priority;
     }
     one.turn < other.turn
+}
+
+/// The band of an entry: its priority, and one band for all from 9 on; a single band where only turns count.
+pub(crate) fn band_of(key_first: bool, entry: &Entry) -> usize
+    ensures band { result ≡ band key_first entry.now }
+    ensures inside { result < 10 }
+{
+    if !key_first {
+        return 0;
+    }
+    entry.priority.min(9) as usize
+}
+
+/// The end of a band, and where it has none that of the nearest band of greater priority that has one.
+pub(crate) fn nearest_end(ends: &[Option<Slot>; BANDS], band: usize) -> Option<Slot>
+    ensures { result ≡ nearest (drop band ends.now) }
+{
+    for place in band..BANDS {
+        if let Some(slot) = ends[place] {
+            return Some(slot);
+        }
+    }
+    None
 }
 
 /// Tells that the numbers of the entry are those of their types.
@@ -107,22 +133,14 @@ pub(crate) fn tie_behind(
     }
 }
 
-/// Ties the node at the slot to what is to stand before it; where there is no slot, that is to stand last in
-/// the queue.
-pub(crate) fn tie_before(
-    pool: &mut Pool<Node>,
-    last: &mut Option<Slot>,
-    slot: Option<Slot>,
-    before: Option<Slot>,
-)
+/// Ties the node at the slot, where there is one, to what is to stand before it.
+pub(crate) fn tie_before(pool: &mut Pool<Node>, slot: Option<Slot>, before: Option<Slot>)
     requires { IfSome slot (λ s. IsSome (value_at pool.old s)) }
     ensures tied { Relinked (value_at pool.old) (value_at pool.new) slot (with_before before) }
-    ensures last { last.new ≡ cond (is_some slot) last.old before }
     ensures spare { pool.new.spare ≡ pool.old.spare }
 {
-    match slot {
-        Some(slot) => pool.get_mut(slot).before = number_of(before),
-        None => *last = before,
+    if let Some(slot) = slot {
+        pool.get_mut(slot).before = number_of(before);
     }
 }
 
@@ -145,4 +163,49 @@ pub(crate) fn place_of(
         place = slot_of(pool, node.before);
     }
     place
+}
+
+/// Whether an entry of the band stands at the slot, where there is one.
+pub(crate) fn has_band(pool: &Pool<Node>, key_first: bool, slot: Option<Slot>, band: usize) -> bool
+    requires { IfSome slot (λ s. IsSome (value_at pool.now s)) }
+    ensures { result ≡ has_band (value_at pool.now) key_first band slot }
+{
+    match slot {
+        Some(slot) => band_of(key_first, &pool.get(slot).entry) == band,
+        None => false,
+    }
+}
+
+/// Sets the end of a band, unless an entry of the band stands behind it.
+pub(crate) fn set_end(
+    pool: &Pool<Node>,
+    ends: &mut [Option<Slot>; BANDS],
+    key_first: bool,
+    band: usize,
+    end: Option<Slot>,
+    behind: Option<Slot>,
+)
+    requires inside { band < 10 }
+    requires live { IfSome behind (λ s. IsSome (value_at pool.now s)) }
+    ensures { ends.new ≡ cond (has_band (value_at pool.now) key_first band behind) ends.old (set ends.old band end) }
+{
+    if !has_band(pool, key_first, behind, band) {
+        ends[band] = end;
+    }
+}
+
+/// The slot before the place of an entry that was taken, where it becomes the end of the entry's band.
+pub(crate) fn end_before(
+    pool: &Pool<Node>,
+    key_first: bool,
+    band: usize,
+    before: Option<Slot>,
+) -> Option<Slot>
+    requires { IfSome before (λ s. IsSome (value_at pool.now s)) }
+    ensures { result ≡ cond (has_band (value_at pool.now) key_first band before) before None }
+{
+    if has_band(pool, key_first, before, band) {
+        return before;
+    }
+    None
 }

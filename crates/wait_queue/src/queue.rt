@@ -9,7 +9,8 @@ ghost use Rattle.wait_queue.specs.declared.node.Node.{Node as NodeRecord};
 ghost use Rattle.wait_queue.specs.declared.queue.Queue.{Queue as QueueRecord};
 
 use crate::node::{
-    Entry, Node, behind_of, check_range, number_of, place_of, slot_of, tie_before, tie_behind,
+    BANDS, Entry, Node, band_of, behind_of, check_range, end_before, nearest_end, number_of,
+    place_of, set_end, slot_of, tie_before, tie_behind,
 };
 use slot_pool::{Pool, Slot};
 
@@ -18,8 +19,12 @@ use slot_pool::{Pool, Slot};
 pub struct Queue {
     key_first: bool,
     first: Option<Slot>,
-    last: Option<Slot>,
+    /// The last slot of each band of priorities, from which the walk to the place of an entry begins.
+    ends: [Option<Slot>; BANDS],
 }
+
+// There may be one for each machine of a cluster, so what it takes is known.
+const _: () = prove!(size_of::<Queue>() == 272);
 
 impl Queue {
     /// A queue with no entry, by greater priority and then by smaller turn, or by turn alone.
@@ -30,7 +35,7 @@ impl Queue {
         Queue {
             key_first,
             first: None,
-            last: None,
+            ends: [None; BANDS],
         }
     }
 
@@ -46,15 +51,25 @@ impl Queue {
         ensures spare { pool.new.spare + 1 ≡ pool.old.spare }
     {
         check_range(&entry);
-        let before = place_of(pool, self.last, self.key_first, &entry);
+        let band = band_of(self.key_first, &entry);
+        let start = nearest_end(&self.ends, band);
+        let before = place_of(pool, start, self.key_first, &entry);
         let behind = behind_of(pool, before, self.first);
         let slot = pool.put(Node {
             entry,
             before: number_of(before),
             behind: number_of(behind),
         });
+        set_end(
+            pool,
+            &mut self.ends,
+            self.key_first,
+            band,
+            Some(slot),
+            behind,
+        );
         tie_behind(pool, &mut self.first, before, Some(slot));
-        tie_before(pool, &mut self.last, behind, Some(slot));
+        tie_before(pool, behind, Some(slot));
         slot
     }
 
@@ -76,8 +91,11 @@ impl Queue {
         } = pool.take(slot);
         let before = slot_of(pool, before);
         let behind = slot_of(pool, behind);
+        let band = band_of(self.key_first, &entry);
+        let end = end_before(pool, self.key_first, band, before);
+        set_end(pool, &mut self.ends, self.key_first, band, end, behind);
         tie_behind(pool, &mut self.first, before, behind);
-        tie_before(pool, &mut self.last, behind, before);
+        tie_before(pool, behind, before);
         entry
     }
 
