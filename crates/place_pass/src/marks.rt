@@ -33,8 +33,8 @@ pub(crate) struct Rank {
     pub(crate) turn: u64,
 }
 
-/// The rank that no other comes before.
-pub(crate) fn earliest() -> Rank
+// The rank that no other comes before.
+fn earliest() -> Rank
     ensures { rank_of result ≡ zero_rank }
 {
     Rank {
