@@ -9,7 +9,7 @@ ghost use Rattle.grant_table.specs.GrantTables.{as_known};
 ghost use Rattle.place_pass.specs.Cells.{cell_at, job_at, taken};
 ghost use Rattle.place_pass.specs.Placers.{AreAllowed, AreLevel, board_over};
 ghost use Rattle.place_pass.specs.Best.{AreAdmitted};
-ghost use Rattle.place_pass.specs.Bounds.{MarkRecord, rank_of, mark_of, mark_at, key_of, zero_rank, reset_mark, cleared_mark, lowered_mark, after_taking, is_nearer_in};
+ghost use Rattle.place_pass.specs.Bounds.{MarkRecord, rank_of, mark_of, mark_at, key_of, zero_rank, reset_mark, bounded_mark, cleared_mark, lowered_mark, after_taking, is_nearer_in};
 ghost use Rattle.place_pass.specs.Sights.{IsAsked, IsForgotten};
 
 use crate::keys::{first_below, number_of_mark, number_of_none, renew};
@@ -317,6 +317,16 @@ impl Marks {
         self.keys[machine as usize] = key;
     }
 
+    /// No pair waits, so nothing is placeable on any machine. The turns of all pairs that waited are below `turns`.
+    pub(crate) fn settle(&mut self, turns: u64)
+        ensures long { length self.new ≡ length self.old }
+        ensures settled { (m : ℕ) → m < length self.old → key_of (mark_at self.new m) turns ≡ None }
+        ensures until { (m : ℕ) → (mark_at self.new m).until ≤ turns }
+    {
+        settle_each(&mut self.marks, &mut self.keys, turns);
+        self.until = turns;
+    }
+
     // Whether a mark may note a group.
     fn may_note(&self) -> bool
         ensures { result ≡ false → (m g : ℕ) → m < length self.now → get_or (mark_at self.now m).groups g false ≡ false }
@@ -464,16 +474,17 @@ pub(crate) fn forget_groups(marks: &mut Marks, wishes: &Wishes, line: &Line, tab
     clear_all(marks);
 }
 
-/// No pair waits, so nothing is placeable on any machine. The turns of all pairs that waited are below `turns`.
-pub(crate) fn settle_all(marks: &mut Marks, turns: u64)
-    ensures settled { (m : ℕ) → m < length marks.old → key_of (mark_at marks.new m) turns ≡ None }
-    ensures until { (m : ℕ) → (mark_at marks.old m).until ≤ turns → (mark_at marks.new m).until ≤ turns }
-    ensures long { length marks.new ≡ length marks.old }
+// All marks say that nothing is placeable. The turns of all pairs are below `turns`.
+fn settle_each(marks: &mut Vec<Mark>, keys: &mut Vec<u128>, turns: u64)
+    requires { length keys.old.items ≡ length marks.old.items }
+    ensures marks { (m : ℕ) → m < length marks.old.items → mark_at (map mark_of marks.new.items) m ≡ bounded_mark None turns (mark_at (map mark_of marks.old.items) m) }
+    ensures long { length marks.new.items ≡ length marks.old.items }
+    ensures keys { length keys.new.items ≡ length keys.old.items }
 {
-    let mut at = marks.next(0, number_of_none(), turns);
-    while at < marks.len() {
-        marks.set_bound(at, None, turns);
-        at = marks.next(at + 1, number_of_none(), turns);
+    for place in 0..marks.len() {
+        let mark = &mut marks[place];
+        mark.set_bound(None, turns);
+        keys[place] = number_of_none();
     }
 }
 

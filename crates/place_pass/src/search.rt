@@ -25,7 +25,7 @@ ghost use Rattle.place_pass.specs.Scenes.{board_in, CanSearch, IsBestOn, IsMarke
 use crate::earliest::earliest;
 use crate::keys::{number_of, number_of_none};
 use crate::line::Line;
-use crate::marks::{Mark, Marks, Rank, settle_all};
+use crate::marks::{Mark, Marks, Rank};
 use crate::wishes::Wishes;
 use cluster_desc::{Cluster, Group};
 use grant_table::{GrantTable, Pick, Steps};
@@ -840,7 +840,7 @@ pub(crate) fn first<L: Ledger>(
     ensures settled { result ≡ None → (m : ℕ) → m < length table.now.cluster.machines → get_or wishes.now.opened m false ≡ true → key_of (mark_at marks.new m) turns ≡ None }
 {
     if line.len() == 0 {
-        settle_all(marks, turns);
+        marks.settle(turns);
         return None;
     }
     let Some(least) = least_machine(wishes, marks, turns) else {
