@@ -148,15 +148,15 @@ module _ (f : ℕ → MarkRecord → MarkRecord) (first before after : List Mark
   left_next m le = let e : nat_eq n m ≡ false = grind (arith, nat_tests, le) in is m ∙ ap (λ t. cond t (f n (mark_at before n)) (mark_at before m)) e ∙ left m (omega (arith, le))
 
 -- ---- all machines are settled
-pub settled_key : (k k' : MarkRecord) (turns t : ℕ) → k' ≡ bounded_mark None turns k → t ≤ turns → key_of k' t ≡ None
-settled_key k k' turns t is le = let late : nat_lt turns t ≡ false = grind (arith, nat_tests, le) in ap (λ (z : MarkRecord). key_of z t) is ∙ ap (λ b. cond b (Some zero_rank) None) late
+pub key_settled : (k k' : MarkRecord) (turns t : ℕ) → k' ≡ bounded_mark None turns k → t ≤ turns → key_of k' t ≡ None
+key_settled k k' turns t is le = let late : nat_lt turns t ≡ false = grind (arith, nat_tests, le) in ap (λ (z : MarkRecord). key_of z t) is ∙ ap (λ b. cond b (Some zero_rank) None) late
 
 module _ (old new : List MarkRecord) (turns : ℕ) (long : length new ≡ length old) (is : (m : ℕ) → m < length old → mark_at new m ≡ bounded_mark None turns (mark_at old m)) where
   pub noted_settled : (keys news : List ℕ) (until : ℕ) → length news ≡ length keys → AreNoted old keys until → AreNoted new news turns
   noted_settled keys news until same noted = record {
     few = let few = noted.few in omega (arith, few, long);
     long = same ∙ noted.long ∙ sym long;
-    above = λ m t lt le some. let f : false ≡ true = sym (ap is_some (settled_key (mark_at old m) (mark_at new m) turns t (is m (omega (arith, lt, long))) le)) ∙ some in cc;
+    above = λ m t lt le some. let f : false ≡ true = sym (ap is_some (key_settled (mark_at old m) (mark_at new m) turns t (is m (omega (arith, lt, long))) le)) ∙ some in cc;
   }
 
   pub clear_settled : (noted : Bool) → AreClearUnless old noted → AreClearUnless new noted

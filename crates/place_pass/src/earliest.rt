@@ -78,7 +78,7 @@ fn rank_of_line(scene: &Scene<'_>) -> Rank
 }
 
 /// A rank that no pair of the line comes before on any machine, where the line is short.
-pub(crate) fn earliest(scene: &Scene<'_>) -> Option<Rank>
+pub(crate) fn earliest_rank(scene: &Scene<'_>) -> Option<Rank>
     requires ready { CanSearch scene.now }
     ensures { IfSome result (λ rank. IsEarliest scene.now rank) }
 {

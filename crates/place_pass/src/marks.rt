@@ -49,7 +49,7 @@ fn earliest() -> Rank
 pub(crate) struct Mark {
     /// `None` where no pair that was looked at is placeable.
     pub(crate) bound: Option<Rank>,
-    /// The pairs with a smaller turn were looked at.
+    /// The pairs with a smaller turn were looked at, or are bounded without a look.
     pub(crate) until: u64,
     /// By group, whether a pair of it may fit that its limit did not allow.
     pub(crate) groups: [bool; 32],
@@ -194,10 +194,9 @@ impl Model for Marks {
 }
 
 impl Marks {
-    ghost use Rattle.std.specs.Prelude.{◌≡◌, ℕ, ◌+◌, ◌<◌, ◌≤◌, true, false, is_some, nat_eq, cond, length, replicate, List, None, IfOk, IfSome};
+    ghost use Rattle.std.specs.Prelude.{◌≡◌, ℕ, ◌+◌, ◌<◌, ◌≤◌, true, false, is_some, nat_eq, cond, length, replicate, List, None, Some, IfOk, IfSome};
     ghost use Rattle.std.proofs.Common.{get_or};
     ghost use Rattle.place_pass.specs.Bounds.{rank_of, mark_of, mark_at, key_of, reset_mark, bounded_mark, lowered_mark, taken_mark, is_bound};
-    ghost use Rattle.std.specs.Option.{option_map};
     ghost use Rattle.place_pass.specs.PackedRanks.{IsAbove};
     ghost use Rattle.place_pass.specs.Sights.{found_rank};
     ghost use Rattle.place_pass.specs.Scenes.{CanSearch, IsMarked, IsSettledBy, IsFoundIn, IsLeastOn};
@@ -303,16 +302,16 @@ impl Marks {
         self.keys[machine.0 as usize] = key;
     }
 
-    /// No pair of the line may be placed on a machine before this bound. Their turns are below `turns`.
-    pub(crate) fn set_bound(&mut self, machine: u32, bound: Option<Rank>, turns: u64)
+    /// No pair of the line comes before this rank on a machine. Their turns are below `turns`.
+    pub(crate) fn set_bound(&mut self, machine: u32, rank: Rank, turns: u64)
         requires { machine < length self.old }
         ensures long { length self.new ≡ length self.old }
-        ensures here { mark_at self.new machine ≡ bounded_mark (option_map rank_of bound) turns (mark_at self.old machine) }
+        ensures here { mark_at self.new machine ≡ bounded_mark (Some (rank_of rank)) turns (mark_at self.old machine) }
         ensures others { (m : ℕ) → nat_eq machine m ≡ false → mark_at self.new m ≡ mark_at self.old m }
     {
         renew(&mut self.keys, &mut self.until, turns);
         let mark = &mut self.marks[machine as usize];
-        mark.set_bound(bound, turns);
+        mark.set_bound(Some(rank), turns);
         let key = number_of_mark(mark, self.until, machine);
         self.keys[machine as usize] = key;
     }

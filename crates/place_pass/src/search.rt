@@ -22,7 +22,7 @@ ghost use Rattle.place_pass.specs.PackedRanks.{packed, IsAbove};
 ghost use Rattle.place_pass.specs.Sights.{IsBehind, AreBehind, ArePassed, limit_in, number_in, sight_rank, rank_with, found_rank, turn_in, IsFree, IsSight, AreBounded, is_first};
 ghost use Rattle.place_pass.specs.Scenes.{board_in, CanSearch, IsBestOn, IsMarked, IsSettledBy, AreMarked, IsFoundIn, IsLeastOn, IsEarliest};
 
-use crate::earliest::earliest;
+use crate::earliest::earliest_rank;
 use crate::keys::{number_of, number_of_none};
 use crate::line::Line;
 use crate::marks::{Mark, Marks, Rank};
@@ -640,7 +640,7 @@ fn consider_other<L: Ledger>(
 {
     if let Some(rank) = earliest {
         if !may_be_first(best, &rank, machine) {
-            marks.set_bound(machine.0, Some(rank), scene.turns);
+            marks.set_bound(machine.0, rank, scene.turns);
             return;
         }
     }
@@ -763,7 +763,7 @@ fn best_of_others<L: Ledger>(
     if at >= marks.len() {
         return;
     }
-    let earliest = earliest(scene);
+    let earliest = earliest_rank(scene);
     while at < marks.len() {
         consider_other(scene, earliest, MachineNo(at), marks, steps, best);
         at = next_other(marks, start, at + 1, scene.turns, best);

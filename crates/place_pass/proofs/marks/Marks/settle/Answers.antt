@@ -4,7 +4,7 @@ use Rattle.std.proofs.lemmas.List.{length-map}
 use Rattle.std.proofs.Math.ListN.{get_or-eq_default}
 use Rattle.place_pass.specs.Bounds.{MarkRecord, mark_of, mark_at, bounded_mark, no_mark}
 use Rattle.place_pass.specs.declared.marks.Mark.{Mark}
-use Rattle.place_pass.proofs.NotedMarksLemmas.{settled_key, noted_settled, clear_settled}
+use Rattle.place_pass.proofs.NotedMarksLemmas.{key_settled, noted_settled, clear_settled}
 use Rattle.place_pass.proofs.marks.Marks.settle.Goals as goal
 
 -- the same by the marks that stand for them
@@ -30,7 +30,7 @@ returns-clause-settled c m lt =
     let items = c.self.inside.marks.items in
     let news = c.settle_each.new.marks.items in
     let there = subst (λ (xs : List MarkRecord). m < length xs) (sym c.self.view_is) lt in
-    settled_key (mark_at (map mark_of items) m) (mark_at (map mark_of news) m) c.args.turns c.args.turns (settled_in items news c.args.turns c.settle_each.ensures.marks m there) (omega arith)
+    key_settled (mark_at (map mark_of items) m) (mark_at (map mark_of news) m) c.args.turns c.args.turns (settled_in items news c.args.turns c.settle_each.ensures.marks m there) (omega arith)
 
 pub returns-clause-until : goal.returns-clause-until
 returns-clause-until c m =
