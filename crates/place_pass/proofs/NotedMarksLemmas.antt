@@ -8,7 +8,7 @@ use Rattle.std.proofs.lemmas.List.{length-map, length-set, length-replicate}
 use Rattle.fuxi_terms.proofs.Booleans.{both_false, number_is, nat_itself}
 use Rattle.fuxi_terms.proofs.IndexedLists.{one_set}
 use Rattle.place_pass.specs.declared.marks.Mark.{Mark}
-use Rattle.place_pass.specs.Bounds.{MarkRecord, mark_of, mark_at, key_of, zero_rank, no_mark, reset_mark, lowered, lowered_mark, taken_mark}
+use Rattle.place_pass.specs.Bounds.{MarkRecord, mark_of, mark_at, key_of, zero_rank, no_mark, reset_mark, bounded_mark, lowered, lowered_mark, taken_mark}
 use Rattle.place_pass.specs.NotedMarks.{AreNoted, AreClearUnless}
 use Rattle.place_pass.specs.PackedRanks.{IsSmall, IsAbove}
 use Rattle.place_pass.proofs.PackedRanksLemmas.{first_key, least_above, least_some}
@@ -146,3 +146,18 @@ module _ (f : ℕ → MarkRecord → MarkRecord) (first before after : List Mark
 
   pub left_next : (m : ℕ) → n + 1 ≤ m → mark_at after m ≡ mark_at first m
   left_next m le = let e : nat_eq n m ≡ false = grind (arith, nat_tests, le) in is m ∙ ap (λ t. cond t (f n (mark_at before n)) (mark_at before m)) e ∙ left m (omega (arith, le))
+
+-- ---- all machines are settled
+pub key_settled : (k k' : MarkRecord) (turns t : ℕ) → k' ≡ bounded_mark None turns k → t ≤ turns → key_of k' t ≡ None
+key_settled k k' turns t is le = let late : nat_lt turns t ≡ false = grind (arith, nat_tests, le) in ap (λ (z : MarkRecord). key_of z t) is ∙ ap (λ b. cond b (Some zero_rank) None) late
+
+module _ (old new : List MarkRecord) (turns : ℕ) (long : length new ≡ length old) (is : (m : ℕ) → m < length old → mark_at new m ≡ bounded_mark None turns (mark_at old m)) where
+  pub noted_settled : (keys news : List ℕ) (until : ℕ) → length news ≡ length keys → AreNoted old keys until → AreNoted new news turns
+  noted_settled keys news until same noted = record {
+    few = let few = noted.few in omega (arith, few, long);
+    long = same ∙ noted.long ∙ sym long;
+    above = λ m t lt le some. let f : false ≡ true = sym (ap is_some (key_settled (mark_at old m) (mark_at new m) turns t (is m (omega (arith, lt, long))) le)) ∙ some in cc;
+  }
+
+  pub clear_settled : (noted : Bool) → AreClearUnless old noted → AreClearUnless new noted
+  clear_settled noted clear = record { clear = λ e m g lt. let inside : m < length old = omega (arith, lt, long) in ap (λ (k : MarkRecord). get_or k.groups g false) (is m inside) ∙ clear.clear e m g inside }

@@ -9,7 +9,7 @@ ghost use Rattle.grant_table.specs.GrantTables.{as_known};
 ghost use Rattle.place_pass.specs.Cells.{cell_at, job_at, taken};
 ghost use Rattle.place_pass.specs.Placers.{AreAllowed, AreLevel, board_over};
 ghost use Rattle.place_pass.specs.Best.{AreAdmitted};
-ghost use Rattle.place_pass.specs.Bounds.{MarkRecord, rank_of, mark_of, mark_at, key_of, zero_rank, reset_mark, cleared_mark, lowered_mark, after_taking, is_nearer_in};
+ghost use Rattle.place_pass.specs.Bounds.{MarkRecord, rank_of, mark_of, mark_at, key_of, zero_rank, reset_mark, bounded_mark, cleared_mark, lowered_mark, after_taking, is_nearer_in};
 ghost use Rattle.place_pass.specs.Sights.{IsAsked, IsForgotten};
 
 use crate::keys::{first_below, number_of_mark, number_of_none, renew};
@@ -33,8 +33,8 @@ pub(crate) struct Rank {
     pub(crate) turn: u64,
 }
 
-/// The rank that no other comes before.
-pub(crate) fn earliest() -> Rank
+// The rank that no other comes before.
+fn earliest() -> Rank
     ensures { rank_of result ≡ zero_rank }
 {
     Rank {
@@ -49,7 +49,7 @@ pub(crate) fn earliest() -> Rank
 pub(crate) struct Mark {
     /// `None` where no pair that was looked at is placeable.
     pub(crate) bound: Option<Rank>,
-    /// The pairs with a smaller turn were looked at.
+    /// The pairs with a smaller turn were looked at, or are bounded without a look.
     pub(crate) until: u64,
     /// By group, whether a pair of it may fit that its limit did not allow.
     pub(crate) groups: [bool; 32],
@@ -194,10 +194,9 @@ impl Model for Marks {
 }
 
 impl Marks {
-    ghost use Rattle.std.specs.Prelude.{◌≡◌, ℕ, ◌+◌, ◌<◌, ◌≤◌, true, false, is_some, nat_eq, cond, length, replicate, List, None, IfOk, IfSome};
+    ghost use Rattle.std.specs.Prelude.{◌≡◌, ℕ, ◌+◌, ◌<◌, ◌≤◌, true, false, is_some, nat_eq, cond, length, replicate, List, None, Some, IfOk, IfSome};
     ghost use Rattle.std.proofs.Common.{get_or};
     ghost use Rattle.place_pass.specs.Bounds.{rank_of, mark_of, mark_at, key_of, reset_mark, bounded_mark, lowered_mark, taken_mark, is_bound};
-    ghost use Rattle.std.specs.Option.{option_map};
     ghost use Rattle.place_pass.specs.PackedRanks.{IsAbove};
     ghost use Rattle.place_pass.specs.Sights.{found_rank};
     ghost use Rattle.place_pass.specs.Scenes.{CanSearch, IsMarked, IsSettledBy, IsFoundIn, IsLeastOn};
@@ -303,18 +302,28 @@ impl Marks {
         self.keys[machine.0 as usize] = key;
     }
 
-    /// No pair of the line may be placed on a machine before this bound. Their turns are below `turns`.
-    pub(crate) fn set_bound(&mut self, machine: u32, bound: Option<Rank>, turns: u64)
+    /// No pair of the line comes before this rank on a machine. Their turns are below `turns`.
+    pub(crate) fn set_bound(&mut self, machine: u32, rank: Rank, turns: u64)
         requires { machine < length self.old }
         ensures long { length self.new ≡ length self.old }
-        ensures here { mark_at self.new machine ≡ bounded_mark (option_map rank_of bound) turns (mark_at self.old machine) }
+        ensures here { mark_at self.new machine ≡ bounded_mark (Some (rank_of rank)) turns (mark_at self.old machine) }
         ensures others { (m : ℕ) → nat_eq machine m ≡ false → mark_at self.new m ≡ mark_at self.old m }
     {
         renew(&mut self.keys, &mut self.until, turns);
         let mark = &mut self.marks[machine as usize];
-        mark.set_bound(bound, turns);
+        mark.set_bound(Some(rank), turns);
         let key = number_of_mark(mark, self.until, machine);
         self.keys[machine as usize] = key;
+    }
+
+    /// No pair waits, so nothing is placeable on any machine. The turns of all pairs that waited are below `turns`.
+    pub(crate) fn settle(&mut self, turns: u64)
+        ensures long { length self.new ≡ length self.old }
+        ensures settled { (m : ℕ) → m < length self.old → key_of (mark_at self.new m) turns ≡ None }
+        ensures until { (m : ℕ) → (mark_at self.new m).until ≤ turns }
+    {
+        settle_each(&mut self.marks, &mut self.keys, turns);
+        self.until = turns;
     }
 
     // Whether a mark may note a group.
@@ -464,16 +473,17 @@ pub(crate) fn forget_groups(marks: &mut Marks, wishes: &Wishes, line: &Line, tab
     clear_all(marks);
 }
 
-/// No pair waits, so nothing is placeable on any machine. The turns of all pairs that waited are below `turns`.
-pub(crate) fn settle_all(marks: &mut Marks, turns: u64)
-    ensures settled { (m : ℕ) → m < length marks.old → key_of (mark_at marks.new m) turns ≡ None }
-    ensures until { (m : ℕ) → (mark_at marks.old m).until ≤ turns → (mark_at marks.new m).until ≤ turns }
-    ensures long { length marks.new ≡ length marks.old }
+// All marks say that nothing is placeable. The turns of all pairs are below `turns`.
+fn settle_each(marks: &mut Vec<Mark>, keys: &mut Vec<u128>, turns: u64)
+    requires { length keys.old.items ≡ length marks.old.items }
+    ensures marks { (m : ℕ) → m < length marks.old.items → mark_at (map mark_of marks.new.items) m ≡ bounded_mark None turns (mark_at (map mark_of marks.old.items) m) }
+    ensures long { length marks.new.items ≡ length marks.old.items }
+    ensures keys { length keys.new.items ≡ length keys.old.items }
 {
-    let mut at = marks.next(0, number_of_none(), turns);
-    while at < marks.len() {
-        marks.set_bound(at, None, turns);
-        at = marks.next(at + 1, number_of_none(), turns);
+    for place in 0..marks.len() {
+        let mark = &mut marks[place];
+        mark.set_bound(None, turns);
+        keys[place] = number_of_none();
     }
 }
 

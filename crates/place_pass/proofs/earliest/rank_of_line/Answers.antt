@@ -1,21 +1,11 @@
-use Rattle.std.proofs.Common.{◌≡◌, ℕ, ◌-◌, true, List, Some, sym, subst, arith, inl, inr}
+use Rattle.std.proofs.Common.{◌≡◌, true, Some, subst, arith, inl, inr}
 use Rattle.std.proofs.lemmas.Bool.{cases_lt}
 use Rattle.fuxi_terms.specs.Keys.{Pair}
-use Rattle.written_roles.specs.Masters.{level_of}
 use Rattle.place_pass.specs.Bounds.{rank_of, rank_at, is_bound}
 use Rattle.place_pass.specs.Scenes.{board_in}
 use Rattle.place_pass.specs.Sights.{turn_in}
-use Rattle.place_pass.proofs.BoundsLemmas.{zero_bounds}
 use Rattle.place_pass.proofs.SightsLemmas.{same_place, index_within, place_of}
-use Rattle.place_pass.proofs.earliest.earliest_of_line.Goals as goal
-
-pub returns-then-len-gt-SHORT_LINE : goal.returns-then-len-gt-SHORT_LINE
-returns-then-len-gt-SHORT_LINE c = record {
-  bounded = λ q m has.
-      let s = c.args.scene.now in
-      let b = board_in s in
-      subst (λ (r : List ℕ). is_bound (Some r) (rank_at b s.table.now.entries (turn_in s.turn_of.now q) q m) ≡ true) (sym c.earliest.ensures) (zero_bounds (9 - b.priorities q.0 q.1) (level_of b.cluster b.asks s.table.now.entries q.0 q.1 m) (turn_in s.turn_of.now q));
-}
+use Rattle.place_pass.proofs.earliest.rank_of_line.Goals as goal
 
 pub loop-place-preserved : goal.loop-place-preserved
 loop-place-preserved c k m p lt e =
