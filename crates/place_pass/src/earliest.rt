@@ -18,7 +18,7 @@ use fuxi_terms::limits::MOST_RACKS;
 use schedule_unit::{AppNo, UnitNo};
 
 /// How many pairs a line has at most that is bounded. To settle a machine again costs a look at each of them.
-const SHORT_LINE: usize = 4;
+const SHORT_LINE: usize = 8;
 
 // A level that the unit comes no nearer than on any machine.
 fn least_level(wishes: &Wishes, app: AppNo, unit: UnitNo) -> u8
