@@ -38,11 +38,7 @@ fn stop_of(fault: PoolFault) -> WorldStop
 }
 
 // Keeps the packets of a turn, and prints them.
-fn send(
-    pool: &mut PacketPool,
-    packets: &[Packet],
-    out: &mut Vec<u8>,
-) -> Result<(), WorldStop>
+fn send(pool: &mut PacketPool, packets: &[Packet], out: &mut Vec<u8>) -> Result<(), WorldStop>
     requires { AllByRecursion IsSent packets.now }
     ensures keeps { OnOk result (KeepsMore pool.old pool.new packets.now) }
     ensures text { OnOk result ((net : Net Ledger) (xs : List WrittenPacket) → map parcel_is packets.now ≡ map (parcel_of net) xs
