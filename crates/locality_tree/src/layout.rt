@@ -87,7 +87,7 @@ fn empty_queues(alloc: Global, count: usize) -> Result<Vec<Queue>, OutOfMemory>
     ensures count { IfOk result (λ queues. length queues.items ≡ count) }
     ensures empty { IfOk result (λ queues. AllByRecursion IsEmptyQueue queues.items) }
 {
-    let mut queues = Vec::new(alloc);
+    let mut queues = Vec::with_capacity(alloc, count)?;
     for _ in 0..count {
         queues.push(Queue::new(true))?;
     }
@@ -98,7 +98,7 @@ fn empty_queues(alloc: Global, count: usize) -> Result<Vec<Queue>, OutOfMemory>
 fn vacant_units(alloc: Global, count: usize, places: usize) -> Result<Vec<UnitSlots>, OutOfMemory>
     ensures { IfOk result (λ units. slots_of units.items ≡ replicate count (replicate places None)) }
 {
-    let mut units = Vec::new(alloc);
+    let mut units = Vec::with_capacity(alloc, count)?;
     for _ in 0..count {
         units.push(Vec::from_elem(alloc, None, places)?)?;
     }
