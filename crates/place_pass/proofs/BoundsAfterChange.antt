@@ -17,8 +17,9 @@ use Rattle.fuxi_terms.proofs.Members.{each_place, each_from}
 use Rattle.fuxi_terms.proofs.Sums.{sum_set}
 use Rattle.written_roles.specs.Masters.{level_of}
 use Rattle.written_roles.specs.Placing.{Board, accepts_in, has_room_in, is_allowed_in}
-use Rattle.place_pass.specs.Bounds.{MarkRecord, IsBounded, lowered, lowered_mark, reset_mark, after_taking, is_nearer_in}
+use Rattle.place_pass.specs.Bounds.{MarkRecord, IsBounded, lowered, lowered_mark, reset_mark, no_groups, after_taking, is_nearer_in}
 use Rattle.place_pass.proofs.BoundsLemmas.{NoEarlier, accepts_less, bounded_later, bounded_apart, lowered_bounds, reset_bounds}
+use Rattle.place_pass.proofs.SearchCountsLemmas.{none_noted}
 
 -- ---- tests that hold of fewer
 room_less : (c : ClusterRecord) (sizes : ℕ → ℕ → ℕ → ℕ) (es es' : Table) (a u m : ℕ) → ((i : ℕ) → total_by sizes m i es ≤ total_by sizes m i es') → has_room_in c sizes es' a u m ≡ true → has_room_in c sizes es a u m ≡ true
@@ -284,3 +285,21 @@ module _ (es : Table) (s : Spot) (n : ℕ) (sorted : T (is_sorted spot_cmp es)) 
           let y = number_is s.unit p.1 e.1 in
           let z = number_is (rack_of b.cluster m) (rack_of b.cluster s.machine) r in
           (λ i. nat_lt (held_in b.cluster then (sym x i) (sym y i) (z i)) (b.asks (sym x i) (rack_key (sym y i) (z i)))) ∙ first_false (is_nearer b) _ r far
+
+  -- the same of a unit that begins to wait later, for which no group counts
+  pub taken_later : (b : Board) (p : Pair) (m : ℕ) (k : MarkRecord) (turn : ℕ) → IsBounded b es k.bound no_groups turn p m → IsBounded b then (after_taking b.cluster (b.groups s.job) s.machine (is_nearer b) m k).bound no_groups turn p m
+  taken_later b p m k turn h =
+      by (nat_eq m s.machine) (get_or k.groups (b.groups s.job) false) (get_or no_groups (b.groups s.job) false) (is_nearer b && nat_eq (rack_of b.cluster m) (rack_of b.cluster s.machine)) (none_noted (b.groups s.job)) (taken_bounds b p m clear turn h)
+    where
+      clear : MarkRecord
+      clear = record k { groups = no_groups }
+
+      After : Bool → Bool → Bool → MarkRecord → MarkRecord
+      After x y z c = cond x (reset_mark c.until) (cond y (reset_mark c.until) (cond z (lowered_mark c) c))
+
+      by : (x y y' z : Bool) → y' ≡ false → IsBounded b then (After x y' z clear).bound (After x y' z clear).groups turn p m → IsBounded b then (After x y z k).bound no_groups turn p m
+      by true y y' z e h = reset_bounds b then no_groups turn p m
+      by false true y' z e h = reset_bounds b then no_groups turn p m
+      by false false true z e h = cc
+      by false false false true e h = h
+      by false false false false e h = h

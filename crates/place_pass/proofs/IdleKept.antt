@@ -25,7 +25,7 @@ use Rattle.written_roles.specs.Placing.{Board, Ranked, ranked_in, places_in, can
 use Rattle.grant_table.specs.GrantTables.{TableRecord, as_known, with_admitted}
 use Rattle.place_pass.specs.Best.{AreAdmitted}
 use Rattle.place_pass.specs.Cells.{Cell, no_cell, cell_at, asks_at, asks_in, job_at, taken, taken_all, is_gone, any_gone, asks_more, any_more, Lifts, AvoidsStill, AreWishes}
-use Rattle.place_pass.specs.Bounds.{MarkRecord, mark_at, turn_at}
+use Rattle.place_pass.specs.Bounds.{MarkRecord, mark_at, turn_at, key_of, limited_mark, zero_rank, IsBounded}
 use Rattle.place_pass.specs.SearchCounts.{IsLifted}
 use Rattle.place_pass.specs.Placers.{AreLevel, AsksNoMore, IsIdle, IsClear, IsKept, IsQuiet, IsStill, KeptRecord, board_over, is_open_to}
 use Rattle.place_pass.proofs.BoundsLemmas.{NoEarlier, accepts_less, bounded_later}
@@ -58,6 +58,26 @@ any_none p zero h = refl
 any_none p (suc n) h =
     list_any-append p (below n) (n ∷ []) ∙ ap (λ b. list_any p (below n) || b) (or_false (p n))
     ∙ or_none (list_any p (below n)) (p n) (any_none p n (λ i lt. h i (omega (arith, lt)))) (h n (omega arith))
+
+-- ---- a mark that says nothing of pairs with a turn or a later one
+limited_less : (turns : ℕ) (k : MarkRecord) → (limited_mark turns k).until ≤ k.until
+limited_less turns k = elim (nat_lt turns k.until) as (λ t. nat_lt turns k.until ≡ t → cond t turns k.until ≤ k.until) [
+  | true ↦ λ t. let lt : turns < k.until = grind (arith, nat_tests, t) in omega (arith, lt)
+  | false ↦ λ _. omega arith
+] refl
+
+limited_few : (turns : ℕ) (k : MarkRecord) → (limited_mark turns k).until ≤ turns
+limited_few turns k = elim (nat_lt turns k.until) as (λ t. nat_lt turns k.until ≡ t → cond t turns k.until ≤ turns) [
+  | true ↦ λ _. omega arith
+  | false ↦ λ t. let le : k.until ≤ turns = grind (arith, nat_tests, t) in omega (arith, le)
+] refl
+
+-- it has the bound of all pairs that it had
+limited_key : (turns : ℕ) (k : MarkRecord) → key_of (limited_mark turns k) turns ≡ key_of k turns
+limited_key turns k = ap (λ t. cond t (Some zero_rank) k.bound) (elim (nat_lt turns k.until) as (λ t. nat_lt turns k.until ≡ t → nat_lt (cond t turns k.until) turns ≡ nat_lt k.until turns) [
+  | true ↦ λ t. let a : nat_lt turns turns ≡ false = grind (arith, nat_tests) in let b : nat_lt k.until turns ≡ false = grind (arith, nat_tests, t) in a ∙ sym b
+  | false ↦ λ _. refl
+] refl)
 
 -- ---- where nothing is placeable the search finds none
 record Never (r : Ranked) : Type 0 where
@@ -360,14 +380,19 @@ module _ (j : JobRecord) (cells cells' : List (List Cell)) (o : List Bool) (t : 
     | false ↦ λ _. refl
   ] refl
 
-  pub clear_admitted : (line : List Pair) (marks : List MarkRecord) → AreAdmitted cells line → IsClear o line marks t → IsClear o line marks with_job
-  clear_admitted line marks admitted h = record { clear = λ allowed m g opened. h.clear (λ a u has. still_allowed a u (apart_in line admitted a u has) (allowed a u has)) m g opened }
+  pub clear_admitted : (line : List Pair) (turns : ℕ) (marks marks' : List MarkRecord) → ((m : ℕ) → get_or o m false ≡ true → mark_at marks' m ≡ limited_mark turns (mark_at marks m)) → AreAdmitted cells line → IsClear o line marks t → IsClear o line marks' with_job
+  clear_admitted line turns marks marks' is admitted h = record { clear = λ allowed m g opened. ap (λ (k : MarkRecord). get_or k.groups g false) (is m opened) ∙ h.clear (λ a u has. still_allowed a u (apart_in line admitted a u has) (allowed a u has)) m g opened }
 
-  pub kept_admitted : (line : List Pair) (turns : ℕ) (k : KeptRecord) → AreAdmitted cells line → IsKept cells o line turns k t → IsKept cells' o line turns k (record t { jobs = with_admitted j t.jobs })
-  kept_admitted line turns k admitted h = record {
-    bounds = λ m a u opened has lt. bounded_later (board_over cells o t) (board_over cells' o (record t { jobs = with_admitted j t.jobs })) t.entries t.entries (a, u) m
-        (admitted_later a u m (apart_in line admitted a u has)) (mark_at k.marks m).bound (mark_at k.marks m).groups (turn_at k.turn_of a u) (h.bounds m a u opened has lt);
-    until = h.until;
+  pub kept_admitted : (line : List Pair) (turns : ℕ) (k : KeptRecord) (marks : List MarkRecord) → ((m : ℕ) → get_or o m false ≡ true → mark_at marks m ≡ limited_mark turns (mark_at k.marks m)) → AreAdmitted cells line → IsKept cells o line turns k t
+      → IsKept cells' o line turns (record k { marks = marks }) (record t { jobs = with_admitted j t.jobs })
+  kept_admitted line turns k marks is admitted h = record {
+    bounds = λ m a u opened has lt.
+        let to = ap (λ (x : MarkRecord). x.until) (is m opened) in
+        let less = limited_less turns (mark_at k.marks m) in
+        subst (λ (x : MarkRecord). IsBounded (board_over cells' o with_job) t.entries x.bound x.groups (turn_at k.turn_of a u) (a, u) m) (sym (is m opened))
+        (bounded_later (board_over cells o t) (board_over cells' o with_job) t.entries t.entries (a, u) m
+        (admitted_later a u m (apart_in line admitted a u has)) (mark_at k.marks m).bound (mark_at k.marks m).groups (turn_at k.turn_of a u) (h.bounds m a u opened has (omega (arith, lt, to, less))));
+    later = λ m opened a u turn here ge lt. let to = ap (λ (x : MarkRecord). x.until) (is m opened) in let few = limited_few turns (mark_at k.marks m) in absurd (omega (arith, ge, lt, to, few));
     rises = h.rises;
     below = h.below;
     held = h.held;
@@ -379,9 +404,9 @@ module _ (j : JobRecord) (cells cells' : List (List Cell)) (o : List Bool) (t : 
       let none : out_of (asks_in cells') t.entries a u ≤ 0 = omega (arith, z) in
       grind (arith, nat_tests, none)
 
-  pub quiet_admitted : (line : List Pair) (turns : ℕ) (marks : List MarkRecord) → IsQuiet cells o line turns marks t → IsQuiet cells' o line turns marks with_job
-  quiet_admitted line turns marks h = record {
-    settled = h.settled;
+  pub quiet_admitted : (line : List Pair) (turns : ℕ) (marks marks' : List MarkRecord) → ((m : ℕ) → get_or o m false ≡ true → mark_at marks' m ≡ limited_mark turns (mark_at marks m)) → IsQuiet cells o line turns marks t → IsQuiet cells' o line turns marks' with_job
+  quiet_admitted line turns marks marks' is h = record {
+    settled = λ m opened. ap (λ k. key_of k turns) (is m opened) ∙ limited_key turns (mark_at marks m) ∙ h.settled m opened;
     waiting = λ a u lt some. elim (nat_eq j.number a) as (λ b. nat_eq j.number a ≡ b → has_pair (a, u) line ≡ true) [
       | true ↦ λ b. let f = none_out a u b in absurd (grind (arith, nat_tests, f, some))
       | false ↦ λ f. h.waiting a u (subst (λ n. u < n) (ap (λ k. length (unwrap_or (option_map (λ (k : KnownJob). k.job.units) k) [])) (same a f)) lt)

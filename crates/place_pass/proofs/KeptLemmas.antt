@@ -1,5 +1,5 @@
 -- What marks and turns say of a line stays so.
-use Rattle.std.proofs.Common.{◌≡◌, ◌≢◌, ℕ, ◌+◌, ◌*◌, ◌<◌, ◌≤◌, Bool, true, false, cond, nat_eq, nat_lt, List, [], ◌∷◌, ◌++◌, length, get_or, set, filter, refl, sym, ◌∙◌, ap, subst, arith, inl, inr, ◌⊎◌}
+use Rattle.std.proofs.Common.{◌≡◌, ◌≢◌, ℕ, ◌+◌, ◌*◌, ◌<◌, ◌≤◌, Bool, true, false, cond, nat_eq, nat_lt, List, [], ◌∷◌, ◌++◌, length, get_or, set, filter, refl, sym, ◌∙◌, ap, subst, arith, inl, inr, ◌⊎◌, Option}
 use Rattle.std.specs.Prelude.{◌&&◌, ◌||◌, T}
 use Rattle.std.specs.List.{AllByRecursion}
 use Rattle.std.specs.FinMap.Entries.{is_sorted}
@@ -15,17 +15,19 @@ use Rattle.fuxi_terms.specs.Tables.{spot, held, held_on, Table}
 use Rattle.fuxi_terms.proofs.Alls.{all_append, all_filter, all_more}
 use Rattle.fuxi_terms.proofs.Booleans.{both_true, and_true, number_is, nat_itself}
 use Rattle.fuxi_terms.proofs.Sums.{sum_set}
-use Rattle.written_roles.specs.Placing.{has_pair}
+use Rattle.written_roles.specs.Placing.{Board, has_pair}
 use Rattle.grant_table.specs.GrantTables.{TableRecord, as_known}
-use Rattle.place_pass.specs.Bounds.{MarkRecord, mark_at, turn_at, IsRising, Rises, Numbered, IsBounded, after_taking, is_nearer_in, key_of, no_groups, reset_mark, lowered_mark}
+use Rattle.place_pass.specs.Bounds.{MarkRecord, mark_at, turn_at, IsRising, Rises, Numbered, IsBounded, after_taking, is_nearer_in, key_of, no_groups, reset_mark, lowered_mark, AreBoundedLater}
 use Rattle.place_pass.specs.Cells.{Cell, AvoidsStill}
 use Rattle.place_pass.specs.WaitingLines.{same_pair}
 use Rattle.place_pass.specs.Placers.{KeptRecord, IsKept, IsSetFrom, board_over, is_open_to}
 use Rattle.place_pass.specs.Sights.{IsAsked, IsForgotten}
-use Rattle.place_pass.proofs.BoundsLemmas.{accepts_less, allowed_bounds, bounded_later, lowered_later, reset_bounds}
+use Rattle.place_pass.proofs.BoundsLemmas.{NoEarlier, accepts_less, allowed_bounds, bounded_later, lowered_later, reset_bounds}
 use Rattle.place_pass.proofs.WaitingLinesLemmas.{pair_self, any_append, either_one, has_filter}
 use Rattle.place_pass.proofs.FirstByTurn.{rising, rising_all}
-use Rattle.place_pass.proofs.BoundsAfterChange.{granted_later, taken_bounds}
+use Rattle.place_pass.proofs.BoundsAfterChange.{granted_later, taken_bounds, taken_later}
+use Rattle.place_pass.proofs.SearchCountsLemmas.{none_noted}
+use Rattle.place_pass.proofs.SightsLemmas.{bounded_wider}
 use Rattle.fuxi_terms.proofs.IndexedLists.{one_set}
 
 -- ---- turns along a line
@@ -39,12 +41,12 @@ rises_filter f q (x ∷ xs) h = elim (q x) as (λ b. Rises f (cond b (x ∷ filt
 pub rising_filter : (f : Pair → ℕ) (q : Pair → Bool) (xs : List Pair) → IsRising f xs → IsRising f (filter q xs)
 rising_filter f q xs h = rising f (filter q xs) (rises_filter f q xs (rising_all f xs h))
 
+pub or_later : (b c : Bool) → c ≡ true → (b || c) ≡ true
+or_later true c h = refl
+or_later false c h = h
+
 has_later : (p x : Pair) (xs : List Pair) → has_pair p xs ≡ true → has_pair p (x ∷ xs) ≡ true
 has_later p x xs h = or_later (same_pair p x) (has_pair p xs) h
-  where
-    or_later : (b c : Bool) → c ≡ true → (b || c) ≡ true
-    or_later true c h = refl
-    or_later false c h = h
 
 all_had : (P : Pair → Type 0) (xs : List Pair) → ((p : Pair) → has_pair p xs ≡ true → P p) → AllByRecursion P xs
 all_had P [] h = tt
@@ -84,17 +86,22 @@ numbered_rises : (f : Pair → ℕ) (n : ℕ) (xs : List Pair) → Numbered f n 
 numbered_rises f n [] h = tt
 numbered_rises f n (x ∷ xs) h = let e = h.0 in (all_more (λ (q : Pair). n + 1 ≤ f q) (λ (q : Pair). f x < f q) (λ q g. omega (arith, e, g)) xs (numbered_least f (n + 1) (n + 1) xs (omega arith) h.1), numbered_rises f (n + 1) xs h.1)
 
+-- a unit for which no group counts is bounded whatever groups are noted
+pub later_noted : (b : Board) (es : Table) (bound : Option (List ℕ)) (groups : List Bool) (turn : ℕ) (p : Pair) (m : ℕ) → IsBounded b es bound no_groups turn p m → IsBounded b es bound groups turn p m
+later_noted b es bound groups turn p m h = bounded_wider b es bound bound no_groups groups turn p m (λ r e. e) (λ e. let f : false ≡ true = sym (none_noted (b.groups p.0)) ∙ e in cc) h
+
 -- ---- a line that loses pairs, and to which others are appended with new turns
 pub kept_lined : (cells : List (List Cell)) (o : List Bool) (line front joined : List Pair) (turns : ℕ) (k : KeptRecord) (t : TableRecord) (turn_of : List ℕ) (q : Pair → Bool)
     → front ≡ filter q line → ((p : Pair) → has_pair p joined ≡ true → has_pair p line ≡ false) → Numbered (λ (p : Pair). turn_at turn_of p.0 p.1) turns joined
     → ((a u : ℕ) → has_pair (a, u) line ≡ true → has_pair (a, u) joined ≡ false → turn_at turn_of a u ≡ turn_at k.turn_of a u)
-    → IsKept cells o line turns k t → IsKept cells o (front ++ joined) (turns + length joined) (record k { turn_of = turn_of }) t
-kept_lined cells o line front joined turns k t turn_of q is new numbered same h = record {
+    → ((a u : ℕ) → has_pair (a, u) joined ≡ true → u < length (get_or cells a [])) → IsKept cells o line turns k t → IsKept cells o (front ++ joined) (turns + length joined) (record k { turn_of = turn_of }) t
+kept_lined cells o line front joined turns k t turn_of q is new numbered same admitted h = record {
   bounds = λ m a u opened has lt. elim (either_one (has_pair (a, u) front) (has_pair (a, u) joined) (sym (any_append (same_pair (a, u)) front joined) ∙ has)) [
     | inl old ↦ let e = stays a u old in subst (λ z. IsBounded (board_over cells o t) t.entries (mark_at k.marks m).bound (mark_at k.marks m).groups z (a, u) m) (sym e) (h.bounds m a u opened (was (a, u) old) (subst (λ z. z < (mark_at k.marks m).until) e lt))
-    | inr late ↦ let ge = one_had (λ (p : Pair). turns ≤ turn_at turn_of p.0 p.1) joined (numbered_least f turns turns joined (omega arith) numbered) (a, u) late in let le = h.until m opened in absurd (omega (arith, ge, le, lt))
+    | inr late ↦ let ge = one_had (λ (p : Pair). turns ≤ turn_at turn_of p.0 p.1) joined (numbered_least f turns turns joined (omega arith) numbered) (a, u) late in
+        later_noted (board_over cells o t) t.entries (mark_at k.marks m).bound (mark_at k.marks m).groups (turn_at turn_of a u) (a, u) m (h.later m opened a u (turn_at turn_of a u) (admitted a u late) ge lt)
   ];
-  until = λ m opened. let le = h.until m opened in omega (arith, le);
+  later = λ m opened a u turn here ge lt. h.later m opened a u turn here (omega (arith, ge)) lt;
   rises = rising f (front ++ joined) (rises_append f turns front joined (rises_same (λ (p : Pair). turn_at k.turn_of p.0 p.1) f front (λ p has. stays p.0 p.1 has) (subst (Rises (λ (p : Pair). turn_at k.turn_of p.0 p.1)) (sym is) (rises_filter (λ (p : Pair). turn_at k.turn_of p.0 p.1) q line (rising_all (λ (p : Pair). turn_at k.turn_of p.0 p.1) line h.rises))))
       (λ p has. let e = stays p.0 p.1 has in let lt = h.below p.0 p.1 (was p has) in omega (arith, e, lt)) (numbered_rises f turns joined numbered) (numbered_least f turns turns joined (omega arith) numbered));
   below = λ a u has. elim (either_one (has_pair (a, u) front) (has_pair (a, u) joined) (sym (any_append (same_pair (a, u)) front joined) ∙ has)) [
@@ -143,6 +150,8 @@ module _ (cells : List (List Cell)) (o : List Bool) (line line' : List Pair) (tu
     bounds : (j b v : ℕ) → IsBounded (board_over cells o t) t.entries (mark_at k.marks j).bound (mark_at k.marks j).groups (turn_at k.turn_of b v) (b, v) j
         → IsBounded (board_over cells o t) es (cond x (after_taking t.cluster (group_of (as_known t.jobs) a) m (is_nearer_in (board_over cells o t) es (spot a u m)) j (mark_at k.marks j)) (mark_at k.marks j)).bound
         (cond x (after_taking t.cluster (group_of (as_known t.jobs) a) m (is_nearer_in (board_over cells o t) es (spot a u m)) j (mark_at k.marks j)) (mark_at k.marks j)).groups (turn_at k.turn_of b v) (b, v) j
+    later : (j b v turn : ℕ) → IsBounded (board_over cells o t) t.entries (mark_at k.marks j).bound no_groups turn (b, v) j
+        → IsBounded (board_over cells o t) es (cond x (after_taking t.cluster (group_of (as_known t.jobs) a) m (is_nearer_in (board_over cells o t) es (spot a u m)) j (mark_at k.marks j)) (mark_at k.marks j)).bound no_groups turn (b, v) j
 
   kept_set : (t : TableRecord) (a u m number : ℕ) → T (is_sorted spot_cmp t.entries) → a < 256 → u < 8 → length k.held ≡ 2048
       → MarksTold (record t { entries = set_count spot_cmp t.entries (spot a u m) number }) a u m
@@ -155,7 +164,12 @@ module _ (cells : List (List Cell)) (o : List Bool) (line line' : List Pair) (tu
         let e = f.until j in
         let old = h.bounds j b v opened (fewer (b, v) has) (subst (λ x. turn_at k.turn_of b v < x) (ap (λ (x : MarkRecord). x.until) is ∙ e) lt) in
         subst (λ (x : MarkRecord). IsBounded (board_over cells o t) es x.bound x.groups (turn_at k.turn_of b v) (b, v) j) (sym is) (f.bounds j b v old);
-    until = λ j opened. subst (λ x. x ≤ turns) (sym (ap (λ (x : MarkRecord). x.until) (told j (there j opened)) ∙ (fell (nat_lt (held es a u) (get_or k.held (a * 8 + u) 0)) refl).until j)) (h.until j opened);
+    later = λ j opened b v turn here ge lt.
+        let f = fell (nat_lt (held es a u) (get_or k.held (a * 8 + u) 0)) refl in
+        let is = told j (there j opened) in
+        let e = f.until j in
+        let old = h.later j opened b v turn here ge (subst (λ x. turn < x) (ap (λ (x : MarkRecord). x.until) is ∙ e) lt) in
+        subst (λ (x : MarkRecord). IsBounded (board_over cells o t) es x.bound no_groups turn (b, v) j) (sym is) (f.later j b v turn old);
     rises = rising (λ (p : Pair). turn_at k.turn_of p.0 p.1) line' rises;
     below = λ b v has. h.below b v (fewer (b, v) has);
     held = λ b v lb lv. one_set k.held (a * 8 + u) (b * 8 + v) (held es a u) 0 (omega (arith, la, lu, long)) ∙ elim (nat_eq a b && nat_eq u v) as (λ x. (nat_eq a b && nat_eq u v) ≡ x → cond (nat_eq (a * 8 + u) (b * 8 + v)) (held es a u) (get_or k.held (b * 8 + v) 0) ≡ held es b v) [
@@ -202,10 +216,12 @@ module _ (cells : List (List Cell)) (o : List Bool) (line line' : List Pair) (tu
       fell true e = record {
         until = λ j. same_until t.cluster (group_of (as_known t.jobs) a) m (is_nearer_in (board_over cells o t) es (spot a u m)) j (mark_at k.marks j);
         bounds = λ j b v old. taken_bounds t.entries (spot a u m) number sorted (board_over cells o t) (b, v) j (mark_at k.marks j) (turn_at k.turn_of b v) old;
+        later = λ j b v turn old. taken_later t.entries (spot a u m) number sorted (board_over cells o t) (b, v) j (mark_at k.marks j) turn old;
       }
       fell false e = record {
         until = λ j. refl;
         bounds = λ j b v old. bounded_later (board_over cells o t) (board_over cells o t) t.entries es (b, v) j (granted_later t.entries (spot a u m) number sorted (more e) (board_over cells o t) (b, v) j) (mark_at k.marks j).bound (mark_at k.marks j).groups (turn_at k.turn_of b v) old;
+        later = λ j b v turn old. bounded_later (board_over cells o t) (board_over cells o t) t.entries es (b, v) j (granted_later t.entries (spot a u m) number sorted (more e) (board_over cells o t) (b, v) j) (mark_at k.marks j).bound no_groups turn old;
       }
 
   -- the change as it is told
@@ -220,8 +236,8 @@ module _ (cells cells' : List (List Cell)) (o o' : List Bool) (line : List Pair)
   -- each mark is reset, or lowered where no machine is opened to a unit
   pub kept_demanded : (marks : List MarkRecord)
       → ((m : ℕ) → get_or o' m false ≡ true → (mark_at marks m ≡ reset_mark (mark_at k.marks m).until) ⊎ ((mark_at marks m ≡ lowered_mark (mark_at k.marks m)) × ((a u : ℕ) → is_open_to cells' o' a u m ≡ true → is_open_to cells o a u m ≡ true)))
-      → ((m : ℕ) → get_or o' m false ≡ true → get_or o m false ≡ true) → IsKept cells o line turns k t → IsKept cells' o' line turns (record k { marks = marks }) t
-  kept_demanded marks is was h = record {
+      → ((m : ℕ) → get_or o' m false ≡ true → get_or o m false ≡ true) → ((a : ℕ) → length (get_or cells' a []) ≡ length (get_or cells a [])) → IsKept cells o line turns k t → IsKept cells' o' line turns (record k { marks = marks }) t
+  kept_demanded marks is was same h = record {
     bounds = λ m a u opened has lt. elim (is m opened) [
       | inl new ↦ subst (λ (x : MarkRecord). IsBounded (board_over cells' o' t) t.entries x.bound x.groups (turn_at k.turn_of a u) (a, u) m) (sym new) (reset_bounds (board_over cells' o' t) t.entries (reset_mark (mark_at k.marks m).until).groups (turn_at k.turn_of a u) (a, u) m)
       | inr low ↦ subst (λ (x : MarkRecord). IsBounded (board_over cells' o' t) t.entries x.bound x.groups (turn_at k.turn_of a u) (a, u) m) (sym low.0)
@@ -229,9 +245,12 @@ module _ (cells cells' : List (List Cell)) (o o' : List Bool) (line : List Pair)
           (accepts_less (is_open_to cells o a u m) (nat_lt (held_on t.entries a u m) (most_of (as_known t.jobs) a u)) (is_open_to cells' o' a u m) (nat_lt (held_on t.entries a u m) (most_of (as_known t.jobs) a u)) (low.1 a u) (λ x. x)) (λ r. r) (λ r. r)
           (h.bounds m a u (was m opened) has (subst (λ (x : MarkRecord). turn_at k.turn_of a u < x.until) low.0 lt)))
     ];
-    until = λ m opened. elim (is m opened) [
-      | inl new ↦ subst (λ (x : MarkRecord). x.until ≤ turns) (sym new) (h.until m (was m opened))
-      | inr low ↦ subst (λ (x : MarkRecord). x.until ≤ turns) (sym low.0) (h.until m (was m opened))
+    later = λ m opened a u turn here ge lt. elim (is m opened) [
+      | inl new ↦ subst (λ (x : MarkRecord). IsBounded (board_over cells' o' t) t.entries x.bound no_groups turn (a, u) m) (sym new) (reset_bounds (board_over cells' o' t) t.entries no_groups turn (a, u) m)
+      | inr low ↦ subst (λ (x : MarkRecord). IsBounded (board_over cells' o' t) t.entries x.bound no_groups turn (a, u) m) (sym low.0)
+          (lowered_later (board_over cells o t) (board_over cells' o' t) t.entries t.entries (a, u) m (mark_at k.marks m).bound no_groups turn refl
+          (accepts_less (is_open_to cells o a u m) (nat_lt (held_on t.entries a u m) (most_of (as_known t.jobs) a u)) (is_open_to cells' o' a u m) (nat_lt (held_on t.entries a u m) (most_of (as_known t.jobs) a u)) (low.1 a u) (λ x. x)) (λ r. r) (λ r. r)
+          (h.later m (was m opened) a u turn (subst (λ n. u < n) (same a) here) ge (subst (λ (x : MarkRecord). turn < x.until) low.0 lt)))
     ];
     rises = h.rises;
     below = h.below;
@@ -248,9 +267,9 @@ kept_forgotten cells o line turns k t marks is h = record {
         (allowed_bounds (board_over cells o t) t.entries (a, u) m (mark_at k.marks m).bound (mark_at k.marks m).groups no_groups (turn_at k.turn_of a u) (new.allowed a u has)
         (h.bounds m a u opened has (subst (λ (x : MarkRecord). turn_at k.turn_of a u < x.until) new.is lt)))
   ];
-  until = λ m opened. elim (is m opened) [
-    | inl same ↦ subst (λ (x : MarkRecord). x.until ≤ turns) (sym same) (h.until m opened)
-    | inr new ↦ subst (λ (x : MarkRecord). x.until ≤ turns) (sym new.is) (h.until m opened)
+  later = λ m opened. elim (is m opened) [
+    | inl same ↦ subst (λ (x : MarkRecord). AreBoundedLater (board_over cells o t) t.entries cells turns x m) (sym same) (h.later m opened)
+    | inr new ↦ subst (λ (x : MarkRecord). AreBoundedLater (board_over cells o t) t.entries cells turns x m) (sym new.is) (h.later m opened)
   ];
   rises = h.rises;
   below = h.below;
@@ -274,23 +293,27 @@ kept_opened cells o o' line turns k t marks is h = record {
   bounds = λ m a u opened has lt. elim (is m opened) [
     | inl new ↦ subst (λ (x : MarkRecord). IsBounded (board_over cells o' t) t.entries x.bound x.groups (turn_at k.turn_of a u) (a, u) m) (sym new) (reset_bounds (board_over cells o' t) t.entries (reset_mark 0).groups (turn_at k.turn_of a u) (a, u) m)
     | inr old ↦ subst (λ (x : MarkRecord). IsBounded (board_over cells o' t) t.entries x.bound x.groups (turn_at k.turn_of a u) (a, u) m) (sym old.1)
-        (bounded_later (board_over cells o t) (board_over cells o' t) t.entries t.entries (a, u) m (record {
-          priority = refl;
-          group = refl;
-          accepts = accepts_less (is_open_to cells o a u m) (nat_lt (held_on t.entries a u m) (most_of (as_known t.jobs) a u)) (is_open_to cells o' a u m) (nat_lt (held_on t.entries a u m) (most_of (as_known t.jobs) a u)) (λ e. and_true (get_or o m false) _ old.0 (both_true (get_or o' m false) _ e).1) (λ x. x);
-          room = λ r. r;
-          allowed = λ r. r;
-          level = omega arith;
-        }) (mark_at k.marks m).bound (mark_at k.marks m).groups (turn_at k.turn_of a u) (h.bounds m a u old.0 has (subst (λ (x : MarkRecord). turn_at k.turn_of a u < x.until) old.1 lt)))
+        (bounded_later (board_over cells o t) (board_over cells o' t) t.entries t.entries (a, u) m (still m a u old.0) (mark_at k.marks m).bound (mark_at k.marks m).groups (turn_at k.turn_of a u) (h.bounds m a u old.0 has (subst (λ (x : MarkRecord). turn_at k.turn_of a u < x.until) old.1 lt)))
   ];
-  until = λ m opened. elim (is m opened) [
-    | inl new ↦ subst (λ (x : MarkRecord). x.until ≤ turns) (sym new) (omega arith)
-    | inr old ↦ subst (λ (x : MarkRecord). x.until ≤ turns) (sym old.1) (h.until m old.0)
+  later = λ m opened a u turn here ge lt. elim (is m opened) [
+    | inl new ↦ subst (λ (x : MarkRecord). IsBounded (board_over cells o' t) t.entries x.bound no_groups turn (a, u) m) (sym new) (reset_bounds (board_over cells o' t) t.entries no_groups turn (a, u) m)
+    | inr old ↦ subst (λ (x : MarkRecord). IsBounded (board_over cells o' t) t.entries x.bound no_groups turn (a, u) m) (sym old.1)
+        (bounded_later (board_over cells o t) (board_over cells o' t) t.entries t.entries (a, u) m (still m a u old.0) (mark_at k.marks m).bound no_groups turn (h.later m old.0 a u turn here ge (subst (λ (x : MarkRecord). turn < x.until) old.1 lt)))
   ];
   rises = h.rises;
   below = h.below;
   held = h.held;
 }
+  where
+    still : (m a u : ℕ) → get_or o m false ≡ true → NoEarlier (board_over cells o t) (board_over cells o' t) t.entries t.entries (a, u) m
+    still m a u opened = record {
+      priority = refl;
+      group = refl;
+      accepts = accepts_less (is_open_to cells o a u m) (nat_lt (held_on t.entries a u m) (most_of (as_known t.jobs) a u)) (is_open_to cells o' a u m) (nat_lt (held_on t.entries a u m) (most_of (as_known t.jobs) a u)) (λ e. and_true (get_or o m false) _ opened (both_true (get_or o' m false) _ e).1) (λ x. x);
+      room = λ r. r;
+      allowed = λ r. r;
+      level = omega arith;
+    }
 
 pub open_there : (o : List Bool) (n : ℕ) → length o ≡ n → (j : ℕ) → get_or o j false ≡ true → j < n
 open_there o n e j opened = elim (cases_lt j n) [

@@ -18,8 +18,10 @@ use Rattle.place_pass.specs.Placers.{KeptRecord, IsKept}
 use Rattle.place_pass.specs.PlacerTrees.{Holds, HoldsLine}
 use Rattle.place_pass.proofs.CellsLemmas.{placed}
 use Rattle.place_pass.proofs.FirstByTurn.{has_at}
-use Rattle.place_pass.proofs.KeptLemmas.{kept_lined, rises_filter}
-use Rattle.place_pass.proofs.WaitingLinesLemmas.{has_filter}
+use Rattle.place_pass.proofs.KeptLemmas.{kept_lined, or_later, rises_filter}
+use Rattle.place_pass.proofs.WaitingLinesLemmas.{any_append, has_filter}
+use Rattle.place_pass.proofs.SightsLemmas.{place_of}
+use Rattle.place_pass.specs.WaitingLines.{same_pair}
 use Rattle.place_pass.proofs.NumberedLemmas.{numbered_end, has_end}
 use Rattle.place_pass.proofs.PlacerTreesLemmas.{admitted_in}
 use Rattle.place_pass.proofs.StandsAfterChange.{holds_turned}
@@ -54,10 +56,15 @@ module _ {line front all other : List Pair} {stayed : ℕ} {q : Pair → Bool} {
       let j : has_pair (a, u) joined ≡ true = has_end stayed front joined other lined_is up.long i (a, u) ge e (λ q i g. has_at joined i q g) in
       let f : true ≡ false = sym has ∙ not_had (a, u) j in let g : ⊥ = cc in g)
 
-  pub lined_kept : (cells : List (List Cell)) (o : List Bool) (turns : ℕ) (t : TableRecord) → ((i : ℕ) (p : Pair) → stayed ≤ i → slice_get other i ≡ Some p → turn_at turn_of p.0 p.1 ≡ turns + (i - stayed)) → IsKept cells o line turns k t
+  pub lined_kept : (cells : List (List Cell)) (o : List Bool) (turns : ℕ) (t : TableRecord) → ((i : ℕ) (p : Pair) → stayed ≤ i → slice_get other i ≡ Some p → turn_at turn_of p.0 p.1 ≡ turns + (i - stayed)) → AreAdmitted cells other → IsKept cells o line turns k t
       → IsKept cells o other (turns + length joined) (record k { turn_of = turn_of }) t
-  lined_kept cells o turns t numbered h = subst (λ (l : List Pair). IsKept cells o l (turns + length joined) (record k { turn_of = turn_of }) t) (sym lined_is)
-      (kept_lined cells o line front joined turns k t turn_of q up.kept not_had (numbered_end (λ (p : Pair). turn_at turn_of p.0 p.1) turns stayed front joined other lined_is up.long numbered) (λ a u has _. turns_stay a u has) h)
+  lined_kept cells o turns t numbered admitted h = subst (λ (l : List Pair). IsKept cells o l (turns + length joined) (record k { turn_of = turn_of }) t) (sym lined_is)
+      (kept_lined cells o line front joined turns k t turn_of q up.kept not_had (numbered_end (λ (p : Pair). turn_at turn_of p.0 p.1) turns stayed front joined other lined_is up.long numbered) (λ a u has _. turns_stay a u has) there h)
+    where
+      there : (a u : ℕ) → has_pair (a, u) joined ≡ true → u < length (get_or cells a [])
+      there a u has =
+          let place = place_of (a, u) other (ap (has_pair (a, u)) lined_is ∙ any_append (same_pair (a, u)) front joined ∙ or_later (has_pair (a, u) front) (has_pair (a, u) joined) has) in
+          all_at (λ (p : Pair). p.1 < length (get_or cells p.0 [])) other place.place (a, u) admitted place.at
 
   -- those that stay are the first of the new line
   pub front_is : take stayed other ≡ front

@@ -1,5 +1,5 @@
 -- Marks of which some are noted: what another mark changes, and what is passed.
-use Rattle.std.proofs.Common.{◌≡◌, ℕ, zero, suc, ◌+◌, ◌<◌, ◌≤◌, Bool, true, false, cond, nat_eq, nat_lt, List, length, map, set, Option, None, Some, get_or, refl, subst, sym, ◌∙◌, ap, arith, inl, inr}
+use Rattle.std.proofs.Common.{◌≡◌, ℕ, zero, suc, ◌+◌, ◌^◌, ◌<◌, ◌≤◌, Bool, true, false, cond, nat_eq, nat_lt, List, length, map, set, Option, None, Some, get_or, refl, subst, sym, ◌∙◌, ap, arith, inl, inr}
 use Rattle.std.specs.Prelude.{◌||◌, is_some, replicate}
 use Rattle.std.specs.List.{list_any}
 use Rattle.std.proofs.lemmas.Bool.{cases_lt}
@@ -8,9 +8,9 @@ use Rattle.std.proofs.lemmas.List.{length-map, length-set, length-replicate}
 use Rattle.fuxi_terms.proofs.Booleans.{both_false, number_is, nat_itself}
 use Rattle.fuxi_terms.proofs.IndexedLists.{one_set}
 use Rattle.place_pass.specs.declared.marks.Mark.{Mark}
-use Rattle.place_pass.specs.Bounds.{MarkRecord, mark_of, mark_at, key_of, zero_rank, no_mark, reset_mark, bounded_mark, lowered, lowered_mark, taken_mark}
+use Rattle.place_pass.specs.Bounds.{MarkRecord, mark_of, mark_at, key_of, zero_rank, no_mark, reset_mark, lowered, lowered_mark, taken_mark}
 use Rattle.place_pass.specs.NotedMarks.{AreNoted, AreClearUnless}
-use Rattle.place_pass.specs.PackedRanks.{IsSmall, IsAbove}
+use Rattle.place_pass.specs.PackedRanks.{never_rank, IsSmall, IsAbove}
 use Rattle.place_pass.proofs.PackedRanksLemmas.{first_key, least_above, least_some}
 use Rattle.place_pass.proofs.SearchCountsLemmas.{none_noted, none_any}
 use Rattle.place_pass.proofs.SightsLemmas.{mark_read, marks_set}
@@ -48,15 +48,29 @@ noted_new n few =
           let small : IsSmall first_key = record { late = omega arith; level = omega arith; turn = omega arith } in
           subst (λ (k : MarkRecord). is_some (key_of k turns) ≡ true → IsAbove k turns m (get_or (replicate n 0) m 0)) (sym (repeated n m (reset_mark 0) no_mark inside))
           (λ e. subst (IsAbove (reset_mark 0) turns m) (sym (repeated {A = ℕ} n m 0 0 inside)) (least_some (reset_mark 0) first_key turns m refl small e)) some;
+      never = λ m turns lt is few. let zero = repeated {A = ℕ} n m 0 0 (omega (arith, lt, long)) in absurd (omega (arith, is, zero));
     }
 
--- the numbers of all machines are the least
-pub noted_least : (marks : List MarkRecord) (keys news : List ℕ) (until turns : ℕ) → length news ≡ length keys → ((n : ℕ) → n < length news → get_or news n 0 ≡ 0) → AreNoted marks keys until → AreNoted marks news turns
-noted_least marks keys news until turns long all old = record {
+-- the numbers of all machines are the least, but where there never is a rank
+abbrev pub renewed_number : ℕ → ℕ
+renewed_number key = cond (nat_eq key never_rank) key 0
+
+pub noted_renewed : (marks : List MarkRecord) (keys news : List ℕ) (until turns : ℕ) → turns < 2 ^ 64 → length news ≡ length keys → ((n : ℕ) → n < length news → get_or news n 0 ≡ renewed_number (get_or keys n 0)) → AreNoted marks keys until → AreNoted marks news turns
+noted_renewed marks keys news until turns small long all old = record {
   few = old.few;
   long = long ∙ old.long;
-  above = λ m t lt le some. subst (IsAbove (mark_at marks m) t m) (sym (all m (let number = old.long in omega (arith, lt, number, long)))) (least_above (mark_at marks m) t m (get_or keys m 0) (λ e. old.above m 0 lt (omega arith) e) some);
+  above = λ m t lt le some. let key = get_or keys m 0 in subst (IsAbove (mark_at marks m) t m) (sym (all m (inside m lt))) (elim (nat_eq key never_rank) as (λ b. nat_eq key never_rank ≡ b → IsAbove (mark_at marks m) t m (cond b key 0)) [
+    | true ↦ λ e. let none : false ≡ true = sym (old.never m t lt (number_is key never_rank e) (omega (arith, le, small))) ∙ some in cc
+    | false ↦ λ _. least_above (mark_at marks m) t m key (λ e. old.above m 0 lt (omega arith) e) some
+  ] refl);
+  never = λ m t lt is few. let key = get_or keys m 0 in elim (nat_eq key never_rank) as (λ b. nat_eq key never_rank ≡ b → cond b key 0 ≡ never_rank → is_some (key_of (mark_at marks m) t) ≡ false) [
+    | true ↦ λ _ same. old.never m t lt same few
+    | false ↦ λ _ none. absurd (omega (arith, none))
+  ] refl (sym (all m (inside m lt)) ∙ is);
 }
+  where
+    inside : (m : ℕ) → m < length marks → m < length news
+    inside m lt = let number = old.long in omega (arith, lt, number, long)
 
 -- ---- one machine has another mark
 module _ (marks : List Mark) (machine : ℕ) (x : Mark) where
@@ -64,8 +78,9 @@ module _ (marks : List Mark) (machine : ℕ) (x : Mark) where
   long_set = length-map (set marks machine x) mark_of ∙ length-set marks machine x ∙ sym (length-map marks mark_of)
 
   pub noted_set : (keys : List ℕ) (key until : ℕ) → machine < length marks → AreNoted (map mark_of marks) keys until
-      → ((turns : ℕ) → turns ≤ until → is_some (key_of (mark_of x) turns) ≡ true → IsAbove (mark_of x) turns machine key) → AreNoted (map mark_of (set marks machine x)) (set keys machine key) until
-  noted_set keys key until lt old here =
+      → ((turns : ℕ) → turns ≤ until → is_some (key_of (mark_of x) turns) ≡ true → IsAbove (mark_of x) turns machine key)
+      → ((turns : ℕ) → key ≡ never_rank → turns < 2 ^ 64 → is_some (key_of (mark_of x) turns) ≡ false) → AreNoted (map mark_of (set marks machine x)) (set keys machine key) until
+  noted_set keys key until lt old here ends =
       let after : List MarkRecord = map mark_of (set marks machine x) in
       let long = long_set in
       let number = old.long in
@@ -86,6 +101,16 @@ module _ (marks : List Mark) (machine : ℕ) (x : Mark) where
               let k : get_or (set keys machine key) m 0 ≡ get_or keys m 0 = one_set keys machine m key 0 inside ∙ ap (λ b. cond b key (get_or keys m 0)) t in
               let one : IsAbove (mark_at (map mark_of marks) m) turns m (get_or keys m 0) = old.above m turns (omega (arith, l, long)) le (sym (ap (λ (z : MarkRecord). is_some (key_of z turns)) is) ∙ some) in
               subst (λ (z : MarkRecord). IsAbove z turns m (get_or (set keys machine key) m 0)) (sym is) (subst (IsAbove (mark_at (map mark_of marks) m) turns m) (sym k) one)
+        ] refl;
+        never = λ m turns l same small. elim (nat_eq machine m) as (λ t. nat_eq machine m ≡ t → is_some (key_of (mark_at after m) turns) ≡ false) [
+          | true ↦ λ t.
+              let is : mark_at after m ≡ mark_of x = marks_set marks machine x m lt ∙ ap (λ b. cond b (mark_of x) (mark_at (map mark_of marks) m)) t in
+              let k : get_or (set keys machine key) m 0 ≡ key = one_set keys machine m key 0 inside ∙ ap (λ b. cond b key (get_or keys m 0)) t in
+              ap (λ (z : MarkRecord). is_some (key_of z turns)) is ∙ ends turns (sym k ∙ same) small
+          | false ↦ λ t.
+              let is : mark_at after m ≡ mark_at (map mark_of marks) m = marks_set marks machine x m lt ∙ ap (λ b. cond b (mark_of x) (mark_at (map mark_of marks) m)) t in
+              let k : get_or (set keys machine key) m 0 ≡ get_or keys m 0 = one_set keys machine m key 0 inside ∙ ap (λ b. cond b key (get_or keys m 0)) t in
+              ap (λ (z : MarkRecord). is_some (key_of z turns)) is ∙ old.never m turns (omega (arith, l, long)) (sym k ∙ same) small
         ] refl;
       }
 
@@ -146,18 +171,3 @@ module _ (f : ℕ → MarkRecord → MarkRecord) (first before after : List Mark
 
   pub left_next : (m : ℕ) → n + 1 ≤ m → mark_at after m ≡ mark_at first m
   left_next m le = let e : nat_eq n m ≡ false = grind (arith, nat_tests, le) in is m ∙ ap (λ t. cond t (f n (mark_at before n)) (mark_at before m)) e ∙ left m (omega (arith, le))
-
--- ---- all machines are settled
-pub key_settled : (k k' : MarkRecord) (turns t : ℕ) → k' ≡ bounded_mark None turns k → t ≤ turns → key_of k' t ≡ None
-key_settled k k' turns t is le = let late : nat_lt turns t ≡ false = grind (arith, nat_tests, le) in ap (λ (z : MarkRecord). key_of z t) is ∙ ap (λ b. cond b (Some zero_rank) None) late
-
-module _ (old new : List MarkRecord) (turns : ℕ) (long : length new ≡ length old) (is : (m : ℕ) → m < length old → mark_at new m ≡ bounded_mark None turns (mark_at old m)) where
-  pub noted_settled : (keys news : List ℕ) (until : ℕ) → length news ≡ length keys → AreNoted old keys until → AreNoted new news turns
-  noted_settled keys news until same noted = record {
-    few = let few = noted.few in omega (arith, few, long);
-    long = same ∙ noted.long ∙ sym long;
-    above = λ m t lt le some. let f : false ≡ true = sym (ap is_some (key_settled (mark_at old m) (mark_at new m) turns t (is m (omega (arith, lt, long))) le)) ∙ some in cc;
-  }
-
-  pub clear_settled : (noted : Bool) → AreClearUnless old noted → AreClearUnless new noted
-  clear_settled noted clear = record { clear = λ e m g lt. let inside : m < length old = omega (arith, lt, long) in ap (λ (k : MarkRecord). get_or k.groups g false) (is m inside) ∙ clear.clear e m g inside }

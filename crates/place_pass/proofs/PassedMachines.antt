@@ -93,5 +93,5 @@ least_raised s m x best earliest later = record {
 pub marked_raised : (s : Scene) (m : ℕ) (x : Rank) (k : MarkRecord) → IsEarliest s x → IsMarked s m (bounded_mark (Some (rank_of x)) s.turns k)
 marked_raised s m x k earliest = record {
   bounded = λ opened. record { bounded = λ q has lt. bounded_by (board_in s) s.table.now.entries (Some (rank_of x)) k.groups (turn_in s.turn_of.now q) q m (earliest.bounded q m has) };
-  until = λ opened. omega arith;
+  later = λ opened a u turn here ge lt. absurd (omega (arith, ge, lt));
 }

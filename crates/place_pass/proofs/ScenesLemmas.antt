@@ -1,16 +1,17 @@
 -- A search on one machine, a step at a time along its path.
 use Rattle.std.proofs.Common.{◌≡◌, ℕ, ◌-◌, ◌*◌, ◌+◌, ◌<◌, ◌≤◌, Bool, true, false, nat_eq, nat_lt, List, [], ◌∷◌, Option, None, Some, length, get_or, refl, sym, ◌∙◌, ap, subst, arith}
 use Rattle.std.proofs.lemmas.Bool.Decides.{nat_tests}
-use Rattle.fuxi_terms.proofs.Booleans.{number_is}
+use Rattle.std.specs.Prelude.{◌&&◌}
+use Rattle.fuxi_terms.proofs.Booleans.{number_is, and_false}
 use Rattle.fuxi_terms.specs.Keys.{Pair}
 use Rattle.grant_table.specs.GrantTables.{IsSound}
 use Rattle.written_roles.specs.Masters.{out_of}
-use Rattle.written_roles.specs.Placing.{has_pair}
+use Rattle.written_roles.specs.Placing.{has_pair, accepts_in, has_room_in}
 use Rattle.wait_queue.specs.declared.node.Entry.{Entry}
 use Rattle.locality_tree.specs.declared.path.Path.{Path}
 use Rattle.locality_tree.specs.Trees.{RankedEntry, level_at}
 use Rattle.locality_tree.specs.Paths.{Leads, Gives}
-use Rattle.place_pass.specs.Bounds.{MarkRecord, mark_at, key_of, rank_at, IsBounded}
+use Rattle.place_pass.specs.Bounds.{MarkRecord, mark_at, key_of, rank_at, IsBounded, AreBoundedLater}
 use Rattle.place_pass.specs.Cells.{asks_in}
 use Rattle.place_pass.specs.Scenes.{board_in, CanSearch, IsBestOn, IsMarked, AreMarked}
 use Rattle.place_pass.specs.Sights.{sight_rank, turn_in}
@@ -18,7 +19,7 @@ use Rattle.place_pass.specs.PlacerTrees.{entry_for}
 use Rattle.place_pass.specs.declared.search.Scene.{Scene}
 use Rattle.place_pass.specs.declared.search.Sight.{Sight}
 use Rattle.place_pass.proofs.PathLemmas.{Walk, IsHead, rank_in_path, head_of, none_left, walk_over, walk_on, head_waits, head_level, head_least, admitted_at, path_ranks, path_lows}
-use Rattle.place_pass.proofs.SightsLemmas.{key_bounds}
+use Rattle.place_pass.proofs.SightsLemmas.{key_bounds, bounded_apart_from}
 use Rattle.place_pass.proofs.PlacerTreesLemmas.{IsOfLine}
 
 abbrev pub WalkOn : Scene → ℕ → List Bool → Path → ℕ → Type 0
@@ -85,11 +86,18 @@ pub key_seen : (s : Scene) → CanSearch s → (m : ℕ) (k : MarkRecord) → Is
 key_seen s r m k marked opened bound is q has =
     subst (λ o. IsBounded (board_in s) s.table.now.entries o k.groups (turn_in s.turn_of.now q) q m) is (key_bounds (board_in s) s.table.now.entries (turn_in s.turn_of.now) s.line.now.pairs k m s.turns r.below (marked.bounded opened) q has)
 
+-- where a machine has no room for any admitted unit, any bound will do
+pub full_bounds : (s : Scene) (m : ℕ) → ((a u : ℕ) → u < length (get_or s.wishes.now.cells a []) → has_room_in s.table.now.cluster (board_in s).sizes s.table.now.entries a u m ≡ false)
+    → (bound : Option (List ℕ)) (groups : List Bool) (turn a u : ℕ) → u < length (get_or s.wishes.now.cells a []) → IsBounded (board_in s) s.table.now.entries bound groups turn (a, u) m
+full_bounds s m none bound groups turn a u here =
+    bounded_apart_from (board_in s) s.table.now.entries bound groups turn (a, u) m
+    (ap (λ b. accepts_in (board_in s) s.table.now.entries a u m && b) (none a u here) ∙ and_false (accepts_in (board_in s) s.table.now.entries a u m))
+
 -- after a look it is exact
-pub mark_looked : (s : Scene) (m : ℕ) (k : MarkRecord) (best : Option Sight) → IsBestOn s m k.groups best → k.bound ≡ sight_rank best → k.until ≡ s.turns → IsMarked s m k
-mark_looked s m k best seen bound until = record {
+pub mark_looked : (s : Scene) (m : ℕ) (k : MarkRecord) (best : Option Sight) → IsBestOn s m k.groups best → k.bound ≡ sight_rank best → AreBoundedLater (board_in s) s.table.now.entries s.wishes.now.cells s.turns k m → IsMarked s m k
+mark_looked s m k best seen bound later = record {
   bounded = λ opened. record { bounded = λ q has lt. subst (λ o. IsBounded (board_in s) s.table.now.entries o k.groups (turn_in s.turn_of.now q) q m) (sym bound) (seen.bounded q has) };
-  until = λ opened. omega (arith, until);
+  later = λ opened. later;
 }
 
 -- one mark more is right, and the others are as they were

@@ -1,5 +1,5 @@
 -- What is kept of each machine, and what it says: no pair of the line that was looked at may be placed there earlier than by a bound.
-use Rattle.std.specs.Prelude.{◌≡◌, ⊤, ℕ, ◌+◌, ◌-◌, ◌*◌, ◌<◌, Bool, true, false, cond, not, nat_eq, nat_lt, ◌&&◌, ◌||◌, List, [], ◌∷◌, replicate, slice_get, Option, Some, None}
+use Rattle.std.specs.Prelude.{◌≡◌, ⊤, ℕ, ◌+◌, ◌-◌, ◌*◌, ◌^◌, ◌<◌, ◌≤◌, Bool, true, false, cond, not, nat_eq, nat_lt, ◌&&◌, ◌||◌, List, [], ◌∷◌, length, replicate, slice_get, Option, Some, None}
 use Rattle.std.specs.List.{AllByRecursion}
 use Rattle.std.specs.Option.{option_map}
 use Rattle.std.specs.Ordering.{nat_cmp, is_lt}
@@ -11,6 +11,7 @@ use Rattle.fuxi_terms.specs.Tables.{held_in, Table}
 use Rattle.fuxi_terms.specs.TallyKeys.{rack_key}
 use Rattle.written_roles.specs.Masters.{level_of}
 use Rattle.written_roles.specs.Placing.{Board, accepts_in, has_room_in, is_allowed_in}
+use Rattle.place_pass.specs.Cells.{Cell}
 use Rattle.place_pass.specs.declared.marks.Mark.{Mark}
 use Rattle.place_pass.specs.declared.marks.Rank.{Rank}
 
@@ -46,6 +47,14 @@ reset_mark until = record { bound = Some zero_rank; until = until; groups = no_g
 -- all pairs of the line are bounded
 abbrev pub bounded_mark : Option (List ℕ) → ℕ → MarkRecord → MarkRecord
 bounded_mark bound turns k = record k { bound = bound; until = turns }
+
+-- nothing is placeable, whatever begins to wait
+abbrev pub full_mark : MarkRecord
+full_mark = record { bound = None; until = 2 ^ 64 - 1; groups = no_groups }
+
+-- it says nothing of the pairs with this turn or a later one
+abbrev pub limited_mark : ℕ → MarkRecord → MarkRecord
+limited_mark turns k = record k { until = cond (nat_lt turns k.until) turns k.until }
 
 -- no group is noted
 abbrev pub cleared_mark : MarkRecord → MarkRecord
@@ -94,6 +103,10 @@ is_bound (Some b) r = not (comes_before r b)
 pub record IsBounded (b : Board) (es : Table) (bound : Option (List ℕ)) (groups : List Bool) (turn : ℕ) (p : Pair) (m : ℕ) : Type 0 where
   pub bounded : accepts_in b es p.0 p.1 m ≡ true → has_room_in b.cluster b.sizes es p.0 p.1 m ≡ true
       → (is_bound bound (rank_at b es turn p m) || (get_or groups (b.groups p.0) false && not (is_allowed_in b.cluster b.groups b.sizes es p.0 p.1))) ≡ true
+
+-- what a mark says of the admitted units that begin to wait later: their turns are not below the next one, and no group counts for them
+abbrev pub AreBoundedLater : Board → Table → List (List Cell) → ℕ → MarkRecord → ℕ → Type 0
+AreBoundedLater b es cells turns k m = (a u turn : ℕ) → u < length (get_or cells a []) → turns ≤ turn → turn < k.until → IsBounded b es k.bound no_groups turn (a, u) m
 
 -- the turn of a pair: 8 places for each job
 abbrev pub turn_at : List ℕ → ℕ → ℕ → ℕ

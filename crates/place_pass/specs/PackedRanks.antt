@@ -8,7 +8,11 @@ packed r m = ((r.late * 256 + r.level) * 2 ^ 64 + r.turn) * 2 ^ 32 + m
 
 -- what is above the numbers of all ranks
 abbrev pub no_rank : ℕ
-no_rank = 2 ^ 128 - 1
+no_rank = 2 ^ 128 - 2
+
+-- and where there is none, whatever begins to wait
+abbrev pub never_rank : ℕ
+never_rank = 2 ^ 128 - 1
 
 pub record IsSmall (r : Rank) : Type 0 where
   pub late : r.late < 256

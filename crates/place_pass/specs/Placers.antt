@@ -16,7 +16,7 @@ use Rattle.std.specs.List.{AllByRecursion, list_any}
 use Rattle.std.specs.Ordering.{eq_by_cmp}
 use Rattle.grant_table.specs.GrantTables.{TableRecord, IsSound, as_known}
 use Rattle.place_pass.specs.WaitingLines.{LineRecord, units_in_all}
-use Rattle.place_pass.specs.Bounds.{MarkRecord, mark_at, key_of, turn_at, IsRising, IsBounded}
+use Rattle.place_pass.specs.Bounds.{MarkRecord, mark_at, key_of, turn_at, IsRising, IsBounded, AreBoundedLater}
 use Rattle.place_pass.specs.Cells.{Cell, WishesRecord, asks_in, job_at, unit_places}
 use Rattle.place_pass.specs.PlacerTrees.{HoldsLine, AllStand}
 use Rattle.locality_tree.specs.Trees.{TreeRecord}
@@ -109,7 +109,7 @@ pub record IsIdle (cells : List (List Cell)) (machines : List Bool) (t : TableRe
 pub record IsKept (cells : List (List Cell)) (machines : List Bool) (line : List Pair) (turns : ℕ) (k : KeptRecord) (t : TableRecord) : Type 0 where
   pub bounds : (m a u : ℕ) → get_or machines m false ≡ true → has_pair (a, u) line ≡ true → turn_at k.turn_of a u < (mark_at k.marks m).until
       → IsBounded (board_over cells machines t) t.entries (mark_at k.marks m).bound (mark_at k.marks m).groups (turn_at k.turn_of a u) (a, u) m
-  pub until : (m : ℕ) → get_or machines m false ≡ true → (mark_at k.marks m).until ≤ turns
+  pub later : (m : ℕ) → get_or machines m false ≡ true → AreBoundedLater (board_over cells machines t) t.entries cells turns (mark_at k.marks m) m
   pub rises : IsRising (λ (p : Pair). turn_at k.turn_of p.0 p.1) line
   pub below : (a u : ℕ) → has_pair (a, u) line ≡ true → turn_at k.turn_of a u < turns
   pub held : (a u : ℕ) → a < most_jobs → u < 8 → get_or k.held (a * 8 + u) 0 ≡ held t.entries a u

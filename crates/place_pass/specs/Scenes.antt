@@ -9,7 +9,7 @@ use Rattle.place_pass.specs.declared.search.Found.{Found}
 use Rattle.place_pass.specs.declared.search.Scene.{Scene}
 use Rattle.place_pass.specs.declared.search.Sight.{Sight}
 use Rattle.place_pass.specs.Best.{AreAdmitted}
-use Rattle.place_pass.specs.Bounds.{MarkRecord, mark_at, key_of, rank_of, rank_at, is_bound, Rises, IsBounded}
+use Rattle.place_pass.specs.Bounds.{MarkRecord, mark_at, key_of, rank_of, rank_at, is_bound, Rises, IsBounded, AreBoundedLater}
 use Rattle.place_pass.specs.Cells.{asks_in, job_at, unit_places}
 use Rattle.place_pass.specs.Placers.{AreLevel, board_over}
 use Rattle.place_pass.specs.Sights.{sight_rank, found_rank, turn_in, IsSight, IsFound, IsLeast, AreBounded}
@@ -37,7 +37,7 @@ pub record IsBestOn (s : Scene) (m : ℕ) (groups : List Bool) (best : Option Si
 -- the mark of a machine is right where the machine is open, and it says that nothing is placeable there
 pub record IsMarked (s : Scene) (m : ℕ) (k : MarkRecord) : Type 0 where
   pub bounded : get_or s.wishes.now.opened m false ≡ true → AreBounded (board_in s) s.table.now.entries (turn_in s.turn_of.now) s.line.now.pairs k m
-  pub until : get_or s.wishes.now.opened m false ≡ true → k.until ≤ s.turns
+  pub later : get_or s.wishes.now.opened m false ≡ true → AreBoundedLater (board_in s) s.table.now.entries s.wishes.now.cells s.turns k m
 
 abbrev pub IsSettledBy : Scene → ℕ → MarkRecord → Type 0
 IsSettledBy s m k = get_or s.wishes.now.opened m false ≡ true → key_of k s.turns ≡ None

@@ -1,6 +1,6 @@
 //! What is kept of each machine, so that one on which nothing can be placed earlier than before is not looked at again.
 
-ghost use Rattle.std.specs.Prelude.{◌≡◌, ℕ, ◌<◌, ◌≤◌, ◌&&◌, ◌⊎◌, cond, nat_lt, nat_eq, true, false, List, Some, IfOk, [], length, map, replicate};
+ghost use Rattle.std.specs.Prelude.{◌≡◌, ℕ, ◌^◌, ◌<◌, ◌≤◌, ◌&&◌, ◌⊎◌, cond, nat_lt, nat_eq, true, false, List, Some, IfOk, [], length, map, replicate};
 ghost use Rattle.std.proofs.Common.{get_or};
 ghost use Rattle.fuxi_terms.specs.Cluster.{rack_of};
 ghost use Rattle.fuxi_terms.specs.Jobs.{unit_count};
@@ -9,7 +9,7 @@ ghost use Rattle.grant_table.specs.GrantTables.{as_known};
 ghost use Rattle.place_pass.specs.Cells.{cell_at, job_at, taken};
 ghost use Rattle.place_pass.specs.Placers.{AreAllowed, AreLevel, board_over};
 ghost use Rattle.place_pass.specs.Best.{AreAdmitted};
-ghost use Rattle.place_pass.specs.Bounds.{MarkRecord, rank_of, mark_of, mark_at, key_of, zero_rank, reset_mark, bounded_mark, cleared_mark, lowered_mark, after_taking, is_nearer_in};
+ghost use Rattle.place_pass.specs.Bounds.{MarkRecord, rank_of, mark_of, mark_at, key_of, zero_rank, reset_mark, cleared_mark, limited_mark, lowered_mark, after_taking, is_nearer_in};
 ghost use Rattle.place_pass.specs.Sights.{IsAsked, IsForgotten};
 
 use crate::keys::{first_below, number_of_mark, number_of_none, renew};
@@ -33,8 +33,8 @@ pub(crate) struct Rank {
     pub(crate) turn: u64,
 }
 
-// The rank that no other comes before.
-fn earliest() -> Rank
+/// The rank that no other comes before.
+pub(crate) fn earliest() -> Rank
     ensures { rank_of result ≡ zero_rank }
 {
     Rank {
@@ -44,12 +44,17 @@ fn earliest() -> Rank
     }
 }
 
+/// The greatest number is no less than any turn. It does nothing; its contract is the law.
+pub(crate) fn turn_fits(turn: u64)
+    ensures { turn < 2 ^ 64 }
+{}
+
 /// A bound for one machine: no placeable pair of the line that was looked at has an earlier rank.
 #[derive(Clone, Copy, Debug)]
 pub(crate) struct Mark {
     /// `None` where no pair that was looked at is placeable.
     pub(crate) bound: Option<Rank>,
-    /// The pairs with a smaller turn were looked at, or are bounded without a look.
+    /// The pairs with a smaller turn were looked at. The greatest number where no admitted unit has room.
     pub(crate) until: u64,
     /// By group, whether a pair of it may fit that its limit did not allow.
     pub(crate) groups: [bool; 32],
@@ -60,7 +65,7 @@ impl Mark {
     ghost use Rattle.std.proofs.Common.{get_or};
     ghost use Rattle.std.specs.Option.{option_map};
     ghost use Rattle.std.specs.List.{list_any};
-    ghost use Rattle.place_pass.specs.Bounds.{rank_of, mark_of, key_of, reset_mark, bounded_mark, cleared_mark, lowered_mark, taken_mark};
+    ghost use Rattle.place_pass.specs.Bounds.{rank_of, mark_of, key_of, reset_mark, bounded_mark, full_mark, limited_mark, cleared_mark, lowered_mark, taken_mark};
 
     /// Of a machine that was not looked at.
     pub(crate) fn new() -> Mark
@@ -90,6 +95,24 @@ impl Mark {
     {
         self.bound = Some(earliest());
         self.groups = [false; 32];
+    }
+
+    /// No admitted unit has room, so nothing is placeable, whatever begins to wait.
+    pub(crate) fn fill(&mut self)
+        ensures { mark_of self.new ≡ full_mark }
+    {
+        self.bound = None;
+        self.until = u64::MAX;
+        self.groups = [false; 32];
+    }
+
+    // Pairs with this turn or a later one may be placeable.
+    fn limit(&mut self, turns: u64)
+        ensures { mark_of self.new ≡ limited_mark turns (mark_of self.old) }
+    {
+        if turns < self.until {
+            self.until = turns;
+        }
     }
 
     // No group is noted any more.
@@ -194,9 +217,10 @@ impl Model for Marks {
 }
 
 impl Marks {
-    ghost use Rattle.std.specs.Prelude.{◌≡◌, ℕ, ◌+◌, ◌<◌, ◌≤◌, true, false, is_some, nat_eq, cond, length, replicate, List, None, Some, IfOk, IfSome};
+    ghost use Rattle.std.specs.Prelude.{◌≡◌, ℕ, ◌+◌, ◌<◌, ◌≤◌, true, false, is_some, nat_eq, cond, length, replicate, List, None, IfOk, IfSome};
     ghost use Rattle.std.proofs.Common.{get_or};
     ghost use Rattle.place_pass.specs.Bounds.{rank_of, mark_of, mark_at, key_of, reset_mark, bounded_mark, lowered_mark, taken_mark, is_bound};
+    ghost use Rattle.std.specs.Option.{option_map};
     ghost use Rattle.place_pass.specs.PackedRanks.{IsAbove};
     ghost use Rattle.place_pass.specs.Sights.{found_rank};
     ghost use Rattle.place_pass.specs.Scenes.{CanSearch, IsMarked, IsSettledBy, IsFoundIn, IsLeastOn};
@@ -265,7 +289,6 @@ impl Marks {
         ensures long { length self.new ≡ length self.old }
         ensures marks { (m : ℕ) → mark_at self.new m ≡ cond (nat_eq machine m) (mark_of mark) (mark_at self.old m) }
     {
-        renew(&mut self.keys, &mut self.until, mark.until);
         let key = number_of_mark(&mark, self.until, machine);
         self.noted |= mark.notes_any();
         self.marks[machine as usize] = mark;
@@ -302,28 +325,25 @@ impl Marks {
         self.keys[machine.0 as usize] = key;
     }
 
-    /// No pair of the line comes before this rank on a machine. Their turns are below `turns`.
-    pub(crate) fn set_bound(&mut self, machine: u32, rank: Rank, turns: u64)
+    /// No pair of the line may be placed on a machine before this bound. Their turns are below `turns`.
+    pub(crate) fn set_bound(&mut self, machine: u32, bound: Option<Rank>, turns: u64)
         requires { machine < length self.old }
         ensures long { length self.new ≡ length self.old }
-        ensures here { mark_at self.new machine ≡ bounded_mark (Some (rank_of rank)) turns (mark_at self.old machine) }
+        ensures here { mark_at self.new machine ≡ bounded_mark (option_map rank_of bound) turns (mark_at self.old machine) }
         ensures others { (m : ℕ) → nat_eq machine m ≡ false → mark_at self.new m ≡ mark_at self.old m }
     {
         renew(&mut self.keys, &mut self.until, turns);
         let mark = &mut self.marks[machine as usize];
-        mark.set_bound(Some(rank), turns);
+        mark.set_bound(bound, turns);
         let key = number_of_mark(mark, self.until, machine);
         self.keys[machine as usize] = key;
     }
 
-    /// No pair waits, so nothing is placeable on any machine. The turns of all pairs that waited are below `turns`.
-    pub(crate) fn settle(&mut self, turns: u64)
-        ensures long { length self.new ≡ length self.old }
-        ensures settled { (m : ℕ) → m < length self.old → key_of (mark_at self.new m) turns ≡ None }
-        ensures until { (m : ℕ) → (mark_at self.new m).until ≤ turns }
+    /// Pairs with a turn below this one wait, which are not looked at yet.
+    pub(crate) fn renew(&mut self, turns: u64)
+        ensures { self.new ≡ self.old }
     {
-        settle_each(&mut self.marks, &mut self.keys, turns);
-        self.until = turns;
+        renew(&mut self.keys, &mut self.until, turns);
     }
 
     // Whether a mark may note a group.
@@ -452,6 +472,18 @@ fn clear_all(marks: &mut Marks)
     marks.note_none();
 }
 
+/// A job is admitted, a unit of which may have room where no other has: pairs with this turn or a later one may be placeable.
+pub(crate) fn limit_all(marks: &mut Marks, turns: u64)
+    ensures marks { (m : ℕ) → m < length marks.old → mark_at marks.new m ≡ limited_mark turns (mark_at marks.old m) }
+    ensures long { length marks.new ≡ length marks.old }
+{
+    for number in 0..marks.len() {
+        let mut mark = *marks.at(number);
+        mark.limit(turns);
+        marks.put(number, mark);
+    }
+}
+
 /// Where no group of the line is at its limit any more, the marks note none.
 pub(crate) fn forget_groups(marks: &mut Marks, wishes: &Wishes, line: &Line, table: &GrantTable)
     requires level { AreLevel wishes.now.cluster (job_at wishes.now.cells) table.now }
@@ -473,17 +505,16 @@ pub(crate) fn forget_groups(marks: &mut Marks, wishes: &Wishes, line: &Line, tab
     clear_all(marks);
 }
 
-// All marks say that nothing is placeable. The turns of all pairs are below `turns`.
-fn settle_each(marks: &mut Vec<Mark>, keys: &mut Vec<u128>, turns: u64)
-    requires { length keys.old.items ≡ length marks.old.items }
-    ensures marks { (m : ℕ) → m < length marks.old.items → mark_at (map mark_of marks.new.items) m ≡ bounded_mark None turns (mark_at (map mark_of marks.old.items) m) }
-    ensures long { length marks.new.items ≡ length marks.old.items }
-    ensures keys { length keys.new.items ≡ length keys.old.items }
+/// No pair waits, so nothing is placeable on any machine. The turns of all pairs that waited are below `turns`.
+pub(crate) fn settle_all(marks: &mut Marks, turns: u64)
+    ensures settled { (m : ℕ) → m < length marks.old → key_of (mark_at marks.new m) turns ≡ None }
+    ensures until { (m : ℕ) → (mark_at marks.new m ≡ mark_at marks.old m) ⊎ ((mark_at marks.new m).until ≤ turns) }
+    ensures long { length marks.new ≡ length marks.old }
 {
-    for place in 0..marks.len() {
-        let mark = &mut marks[place];
-        mark.set_bound(None, turns);
-        keys[place] = number_of_none();
+    let mut at = marks.next(0, number_of_none(), turns);
+    while at < marks.len() {
+        marks.set_bound(at, None, turns);
+        at = marks.next(at + 1, number_of_none(), turns);
     }
 }
 

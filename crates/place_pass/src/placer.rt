@@ -2,7 +2,7 @@
 
 use crate::calm::Calm;
 use crate::line::Line;
-use crate::marks::{Marks, forget_groups, reset_one, tell};
+use crate::marks::{Marks, forget_groups, limit_all, reset_one, tell};
 use crate::scope::{scope_of, tell_marks, tell_tree};
 use crate::search::{first, slot};
 use crate::standing::{enter_line, tell_spot};
@@ -139,6 +139,7 @@ impl Placer {
         let machines = self.wishes.cluster().machines() as usize;
         let fresh = fresh_units(alloc, job, machines)?;
         self.tree.admit(alloc, job)?;
+        limit_all(&mut self.marks, self.turns);
         self.wishes.add_job(job, fresh);
         self.calm.stir(job.app());
         self.units = units;

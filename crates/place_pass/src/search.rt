@@ -15,17 +15,17 @@ ghost use Rattle.written_roles.specs.Placing.{first_in, accepts_in, has_room_in,
 ghost use Rattle.place_pass.specs.Cells.{asks_in, job_at, unit_places};
 ghost use Rattle.place_pass.specs.Placers.{AreLevel, board_over};
 ghost use Rattle.place_pass.specs.Best.{spot_of, AreAdmitted};
-ghost use Rattle.place_pass.specs.Bounds.{MarkRecord, rank_of, mark_of, mark_at, key_of, Rises, rank_at, IsBounded, is_bound, comes_before};
+ghost use Rattle.place_pass.specs.Bounds.{MarkRecord, rank_of, mark_of, mark_at, key_of, Rises, rank_at, IsBounded, AreBoundedLater, is_bound, comes_before};
 ghost use Rattle.place_pass.specs.SearchCounts.{is_unsettled_by, count_below};
 ghost use Rattle.place_pass.specs.PlacerTrees.{TreeOf};
 ghost use Rattle.place_pass.specs.PackedRanks.{packed, IsAbove};
 ghost use Rattle.place_pass.specs.Sights.{IsBehind, AreBehind, ArePassed, limit_in, number_in, sight_rank, rank_with, found_rank, turn_in, IsFree, IsSight, AreBounded, is_first};
 ghost use Rattle.place_pass.specs.Scenes.{board_in, CanSearch, IsBestOn, IsMarked, IsSettledBy, AreMarked, IsFoundIn, IsLeastOn, IsEarliest};
 
-use crate::earliest::earliest_rank;
+use crate::earliest::earliest_of_line;
 use crate::keys::{number_of, number_of_none};
 use crate::line::Line;
-use crate::marks::{Mark, Marks, Rank};
+use crate::marks::{Mark, Marks, Rank, settle_all, turn_fits};
 use crate::wishes::Wishes;
 use cluster_desc::{Cluster, Group};
 use grant_table::{GrantTable, Pick, Steps};
@@ -455,8 +455,7 @@ fn best_on(
     None
 }
 
-// The best placeable pair on one machine: of all pairs of the line, and where none that was looked at is placeable, of the others. A
-// machine that has room for no unit is told without a look at any pair.
+// The best placeable pair on one machine: of all pairs of the line, and where none that was looked at is placeable, of the others.
 fn see(scene: &Scene<'_>, machine: MachineNo, free: &Res, mark: &mut Mark) -> Option<Sight>
     requires ready { CanSearch scene.now }
     requires machine { machine.0 < length scene.now.table.now.cluster.machines }
@@ -464,10 +463,6 @@ fn see(scene: &Scene<'_>, machine: MachineNo, free: &Res, mark: &mut Mark) -> Op
     requires old { AreBounded (board_in scene.now) scene.now.table.now.entries (turn_in scene.now.turn_of.now) scene.now.line.now.pairs (mark_of mark.old) machine.0 }
     ensures { IsBestOn scene.now machine.0 mark.new.groups result }
 {
-    if scene.wishes.is_full(scene.table, free) {
-        mark.groups = [false; 32];
-        return None;
-    }
     if mark.bound.is_none() {
         let from = place_from(scene, mark.until);
         return best_from(scene, machine, free, from, &mut mark.groups);
@@ -486,7 +481,8 @@ fn rank_in(best: &Option<Sight>) -> Option<Rank>
     }
 }
 
-// Looks at one machine, which is a step. Its mark is exact then.
+// Looks at one machine, which is a step. Its mark is exact then. A machine that has room for no unit is told without a look at any pair,
+// and needs none when others begin to wait.
 fn look<L: Ledger>(
     scene: &Scene<'_>,
     machine: MachineNo,
@@ -498,10 +494,16 @@ fn look<L: Ledger>(
     requires old { AreBounded (board_in scene.now) scene.now.table.now.entries (turn_in scene.now.turn_of.now) scene.now.line.now.pairs (mark_of mark.old) machine.0 }
     ensures best { IsBestOn scene.now machine.0 mark.new.groups result }
     ensures bound { option_map rank_of mark.new.bound ≡ sight_rank result }
-    ensures until { mark.new.until ≡ scene.now.turns }
+    ensures until { scene.now.turns ≤ mark.new.until }
+    ensures later { AreBoundedLater (board_in scene.now) scene.now.table.now.entries scene.now.wishes.now.cells scene.now.turns (mark_of mark.new) machine.0 }
     ensures step { steps.new ≡ steps.old + 1 }
 {
     let free = scene.table.free(machine, steps);
+    if scene.wishes.is_full(scene.table, &free) {
+        mark.fill();
+        turn_fits(scene.turns);
+        return None;
+    }
     let best = see(scene, machine, &free, mark);
     mark.bound = rank_in(&best);
     mark.until = scene.turns;
@@ -617,14 +619,14 @@ fn consider_at<L: Ledger>(
 // The same of a machine beside the first: one on which no pair of the line can be the best is not looked at, and its mark says so.
 fn consider_other<L: Ledger>(
     scene: &Scene<'_>,
-    earliest: Option<Rank>,
+    earliest: Rank,
     machine: MachineNo,
     marks: &mut Marks,
     steps: &mut Steps<L>,
     best: &mut Option<Found>,
 )
     requires ready { CanSearch scene.now }
-    requires earliest { IfSome earliest (λ rank. IsEarliest scene.now rank) }
+    requires earliest { IsEarliest scene.now earliest }
     requires machine { machine.0 < length scene.now.table.now.cluster.machines }
     requires marked { length marks.old ≡ length scene.now.table.now.cluster.machines }
     requires old { AreMarked scene.now marks.old }
@@ -638,13 +640,11 @@ fn consider_other<L: Ledger>(
     ensures settled { best.new ≡ None → IsSettledBy scene.now machine.0 (mark_at marks.new machine.0) }
     ensures empty { best.new ≡ None → best.old ≡ None }
 {
-    if let Some(rank) = earliest {
-        if !may_be_first(best, &rank, machine) {
-            marks.set_bound(machine.0, rank, scene.turns);
-            return;
-        }
+    if may_be_first(best, &earliest, machine) {
+        consider_at(scene, machine, marks, steps, best);
+        return;
     }
-    consider_at(scene, machine, marks, steps, best);
+    marks.set_bound(machine.0, Some(earliest), scene.turns);
 }
 
 // The number of the best so far.
@@ -763,7 +763,7 @@ fn best_of_others<L: Ledger>(
     if at >= marks.len() {
         return;
     }
-    let earliest = earliest_rank(scene);
+    let earliest = earliest_of_line(scene);
     while at < marks.len() {
         consider_other(scene, earliest, MachineNo(at), marks, steps, best);
         at = next_other(marks, start, at + 1, scene.turns, best);
@@ -831,16 +831,16 @@ pub(crate) fn first<L: Ledger>(
     requires below { (q : Pair) → has_pair q line.now.pairs ≡ true → turn_in turn_of.now q < turns }
     requires marked { length marks.old ≡ length table.now.cluster.machines }
     requires old { (m : ℕ) → get_or wishes.now.opened m false ≡ true → AreBounded (board_over wishes.now.cells wishes.now.opened table.now) table.now.entries (turn_in turn_of.now) line.now.pairs (mark_at marks.old m) m }
-    requires until { (m : ℕ) → get_or wishes.now.opened m false ≡ true → (mark_at marks.old m).until ≤ turns }
+    requires later { (m : ℕ) → get_or wishes.now.opened m false ≡ true → AreBoundedLater (board_over wishes.now.cells wishes.now.opened table.now) table.now.entries wishes.now.cells turns (mark_at marks.old m) m }
     ensures marked { length marks.new ≡ length marks.old }
     ensures bounded { (m : ℕ) → get_or wishes.now.opened m false ≡ true → AreBounded (board_over wishes.now.cells wishes.now.opened table.now) table.now.entries (turn_in turn_of.now) line.now.pairs (mark_at marks.new m) m }
-    ensures until { (m : ℕ) → get_or wishes.now.opened m false ≡ true → (mark_at marks.new m).until ≤ turns }
+    ensures later { (m : ℕ) → get_or wishes.now.opened m false ≡ true → AreBoundedLater (board_over wishes.now.cells wishes.now.opened table.now) table.now.entries wishes.now.cells turns (mark_at marks.new m) m }
     ensures first { option_map spot_of result ≡ first_in (board_over wishes.now.cells wishes.now.opened table.now) table.now.entries line.now.pairs }
     ensures count { steps.new ≤ steps.old + count_below (λ m. is_unsettled_by wishes.now.opened (mark_at marks.old m) turns m) (length table.now.cluster.machines) }
     ensures settled { result ≡ None → (m : ℕ) → m < length table.now.cluster.machines → get_or wishes.now.opened m false ≡ true → key_of (mark_at marks.new m) turns ≡ None }
 {
     if line.len() == 0 {
-        marks.settle(turns);
+        settle_all(marks, turns);
         return None;
     }
     let Some(least) = least_machine(wishes, marks, turns) else {

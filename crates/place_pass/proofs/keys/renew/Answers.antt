@@ -1,5 +1,5 @@
 use Rattle.std.proofs.Common.{arith}
-use Rattle.place_pass.proofs.NotedMarksLemmas.{noted_least}
+use Rattle.place_pass.proofs.NotedMarksLemmas.{noted_renewed}
 use Rattle.place_pass.proofs.keys.renew.Goals as goal
 
 pub returns : goal.returns
@@ -7,4 +7,4 @@ returns c marks old =
     let i = c.loop-place.invariant in
     let long = i.long in
     let end = c.loop-place-test.false in
-    noted_least marks c.args.keys.now.items c.loop-place.keys.items c.args.until.now c.args.turns long (λ n lt. i.done n (omega (arith, lt, end, long))) old
+    noted_renewed marks c.args.keys.now.items c.loop-place.keys.items c.args.until.now c.args.turns (omega arith) long (λ n lt. i.done n (omega (arith, lt, end, long))) old

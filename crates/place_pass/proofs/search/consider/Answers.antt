@@ -10,10 +10,10 @@ use Rattle.place_pass.proofs.SightsLemmas.{least_none, least_seen}
 use Rattle.place_pass.proofs.search.consider.Goals as goal
 
 pub returns-in-Some-clause-mark : goal.returns-in-Some-clause-mark
-returns-in-Some-clause-mark g c = mark_looked c.args.scene.now c.args.machine.0 (mark_of c.look.new.mark) c.look.result c.look.ensures.best c.look.ensures.bound c.look.ensures.until
+returns-in-Some-clause-mark g c = mark_looked c.args.scene.now c.args.machine.0 (mark_of c.look.new.mark) c.look.result c.look.ensures.best c.look.ensures.bound c.look.ensures.later
 
 pub returns-in-None-clause-mark : goal.returns-in-None-clause-mark
-returns-in-None-clause-mark g c = mark_looked c.args.scene.now c.args.machine.0 (mark_of c.look.new.mark) c.look.result c.look.ensures.best c.look.ensures.bound c.look.ensures.until
+returns-in-None-clause-mark g c = mark_looked c.args.scene.now c.args.machine.0 (mark_of c.look.new.mark) c.look.result c.look.ensures.best c.look.ensures.bound c.look.ensures.later
 
 pub returns-in-Some-clause-least : goal.returns-in-Some-clause-least
 returns-in-Some-clause-least g c =

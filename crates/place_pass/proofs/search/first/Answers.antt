@@ -1,8 +1,8 @@
-use Rattle.std.proofs.Common.{◌≡◌, ℕ, ◌<◌, Bool, true, false, List, Option, None, Some, get_or, sym, ◌∙◌, subst, length, arith}
+use Rattle.std.proofs.Common.{◌≡◌, ℕ, ◌<◌, Bool, true, false, List, Option, None, Some, get_or, sym, ◌∙◌, subst, length, arith, inl, inr}
 use Rattle.std.specs.Prelude.{IfSome}
 use Rattle.fuxi_terms.specs.Keys.{Pair}
 use Rattle.written_roles.specs.Placing.{has_pair}
-use Rattle.place_pass.specs.Bounds.{MarkRecord, mark_at, key_of}
+use Rattle.place_pass.specs.Bounds.{MarkRecord, mark_at, key_of, AreBoundedLater}
 use Rattle.place_pass.specs.Placers.{board_over}
 use Rattle.place_pass.specs.SearchCounts.{is_unsettled_by}
 use Rattle.place_pass.specs.Sights.{AreBehind, found_rank, turn_in, IsFound, IsLeast}
@@ -30,6 +30,15 @@ returns-then-len-eq0-clause-first g c =
     let t = c.args.table.now in
     sym (none_first (board_over w.cells w.opened t) t.entries (turn_in c.args.turn_of.now) c.args.line.now.pairs (λ m lt. record { least = λ q has p. absurd (no_pair q c.args.line.now.pairs (sym c.len.ensures.number ∙ c.if-len-eq0.true) has) }))
 
+pub returns-then-len-eq0-clause-later : goal.returns-then-len-eq0-clause-later
+returns-then-len-eq0-clause-later g c m opened =
+    let w = c.args.wishes.now in
+    let t = c.args.table.now in
+    elim (c.settle_all.ensures.until m) [
+      | inl same ↦ subst (λ (k : MarkRecord). AreBoundedLater (board_over w.cells w.opened t) t.entries w.cells c.args.turns k m) (sym same) (c.requires.later m opened)
+      | inr le ↦ λ a u turn here ge lt. absurd (omega (arith, le, ge, lt))
+    ]
+
 pub returns-in_default-clause-first : goal.returns-in_default-clause-first
 returns-in_default-clause-first g c =
     let w = c.args.wishes.now in
@@ -45,7 +54,7 @@ pub best_from_least-requires-clause-ready : goal.best_from_least-requires-clause
 best_from_least-requires-clause-ready g c = record { level = c.requires.level; admitted = c.requires.admitted; places = c.requires.places; waits = c.requires.waits; rises = c.requires.rises; below = c.requires.below; tree = c.requires.tree }
 
 pub best_from_least-requires-clause-old : goal.best_from_least-requires-clause-old
-best_from_least-requires-clause-old g c m = record { bounded = c.requires.old m; until = c.requires.until m }
+best_from_least-requires-clause-old g c m = record { bounded = c.requires.old m; later = c.requires.later m }
 
 pub best_from_least-requires-clause-there : goal.best_from_least-requires-clause-there
 best_from_least-requires-clause-there g c =
@@ -73,14 +82,14 @@ returns-in-None-clause-first g c =
 pub returns-in-Some-best_from_least-clause-bounded : goal.returns-in-Some-best_from_least-clause-bounded
 returns-in-Some-best_from_least-clause-bounded g c m opened = (c.best_from_least.ensures.marks m).bounded opened
 
-pub returns-in-Some-best_from_least-clause-until : goal.returns-in-Some-best_from_least-clause-until
-returns-in-Some-best_from_least-clause-until g c m opened = (c.best_from_least.ensures.marks m).until opened
+pub returns-in-Some-best_from_least-clause-later : goal.returns-in-Some-best_from_least-clause-later
+returns-in-Some-best_from_least-clause-later g c m opened = (c.best_from_least.ensures.marks m).later opened
 
 pub returns-in-None-clause-bounded : goal.returns-in-None-clause-bounded
 returns-in-None-clause-bounded g c m opened = (c.best_from_least.ensures.marks m).bounded opened
 
-pub returns-in-None-clause-until : goal.returns-in-None-clause-until
-returns-in-None-clause-until g c m opened = (c.best_from_least.ensures.marks m).until opened
+pub returns-in-None-clause-later : goal.returns-in-None-clause-later
+returns-in-None-clause-later g c m opened = (c.best_from_least.ensures.marks m).later opened
 
 pub returns-in-None-clause-settled : goal.returns-in-None-clause-settled
 returns-in-None-clause-settled g c e m lt opened = c.best_from_least.ensures.settled c.in-None.is m lt opened

@@ -1,15 +1,9 @@
-use Rattle.std.proofs.Common.{◌≡◌, ◌<◌, true, Option, None, Some, [], not, length, get_or, refl, ◌∙◌, ap, subst}
-use Rattle.std.specs.Prelude.{◌&&◌}
-use Rattle.fuxi_terms.proofs.Booleans.{and_false}
-use Rattle.fuxi_terms.proofs.Lists.{all_at}
-use Rattle.fuxi_terms.specs.Keys.{Pair}
-use Rattle.written_roles.specs.Placing.{accepts_in}
+use Rattle.std.proofs.Common.{◌≡◌, true, Option, None, Some, not, refl, ◌∙◌, ap, subst}
 use Rattle.std.specs.Option.{is_none, option_map}
 use Rattle.place_pass.specs.Bounds.{rank_of, IsBounded}
 use Rattle.place_pass.specs.Scenes.{board_in}
 use Rattle.place_pass.specs.Sights.{turn_in}
 use Rattle.place_pass.proofs.FirstByTurn.{has_at}
-use Rattle.place_pass.proofs.SightsLemmas.{bounded_apart_from, place_of}
 use Rattle.place_pass.proofs.search.see.Goals as goal
 
 none_is : {A : Type 0} (o : Option A) → is_none o ≡ true → o ≡ None
@@ -25,17 +19,3 @@ best_from-requires-clause-before c k p lt e =
 
 pub returns : goal.returns
 returns c = record { bounded = c.best_on.ensures.bounded; sight = c.best_on.ensures.sight }
-
--- a machine that has room for no unit
-pub returns-then-is_full : goal.returns-then-is_full
-returns-then-is_full c =
-    let s = c.args.scene.now in
-    let m = c.args.machine.0 in
-    record {
-      bounded = λ q has.
-          let place = place_of q s.line.now.pairs has in
-          let here = all_at (λ (p : Pair). p.1 < length (get_or s.wishes.now.cells p.0 [])) s.line.now.pairs place.place q c.requires.ready.admitted place.at in
-          bounded_apart_from (board_in s) s.table.now.entries None _ (turn_in s.turn_of.now q) q m
-          (ap (λ b. accepts_in (board_in s) s.table.now.entries q.0 q.1 m && b) (c.is_full.ensures c.if-is_full.true m q.0 q.1 c.requires.free here) ∙ and_false (accepts_in (board_in s) s.table.now.entries q.0 q.1 m));
-      sight = tt;
-    }

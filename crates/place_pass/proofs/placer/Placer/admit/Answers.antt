@@ -1,4 +1,4 @@
-use Rattle.std.proofs.Common.{◌≡◌, ℕ, ◌+◌, ◌<◌, false, cond, nat_eq, nat_lt, List, [], length, set, get_or, Some, None, sym, ◌∙◌, ap, subst, arith, length-set}
+use Rattle.std.proofs.Common.{◌≡◌, ℕ, ◌+◌, ◌<◌, true, false, cond, nat_eq, nat_lt, List, [], length, set, get_or, Some, None, sym, ◌∙◌, ap, subst, arith, length-set}
 use Rattle.std.specs.Prelude.{◌&&◌, not}
 use Rattle.std.proofs.lemmas.List.{length-map}
 use Rattle.grant_table.specs.GrantTables.{with_admitted}
@@ -9,6 +9,7 @@ use Rattle.place_pass.specs.PlacerTrees.{HoldsLine, AllStand}
 use Rattle.locality_tree.specs.Trees.{TreeRecord, place_count}
 use Rattle.fuxi_terms.specs.Cluster.{ClusterRecord}
 use Rattle.fuxi_terms.proofs.Lists.{all_at}
+use Rattle.place_pass.proofs.KeptLemmas.{open_there}
 use Rattle.place_pass.proofs.SightsLemmas.{place_of}
 use Rattle.place_pass.proofs.StandsAfterChange.{holds_admitted, stands_admitted}
 use Rattle.std.proofs.lemmas.Bool.Decides.{nat_tests}
@@ -43,12 +44,12 @@ invariant_of-self-2 c =
     let n = c.units.ensures.number in
     let k = c.self.invariant.counted in
     let room = c.in_ok-reserve.ensures.ok in
-    subst (λ (x : WishesRecord). IsPlacer x c.reserve.new.self (c.self.inside.units + c.units.result) (length c.self.inside.marks) c.self.inside.turn_of.items (length c.self.inside.held.items) c.admit.new.self) (sym c.add_job.ensures) (record {
+    subst (λ (x : WishesRecord). IsPlacer x c.reserve.new.self (c.self.inside.units + c.units.result) (length c.limit_all.new.marks) c.self.inside.turn_of.items (length c.self.inside.held.items) c.admit.new.self) (sym c.add_job.ensures) (record {
       admitted = subst (AreAdmitted (set w.cells j.number xs)) (sym c.in_ok-reserve.ensures.pairs) (admitted_more w.cells c.self.inside.line.pairs j.number xs lt (omega (arith, none)) c.self.invariant.admitted);
       places = length-set w.cells j.number xs ∙ places;
       counted = omega (arith, more, long, n, k);
       room = omega (arith, more, long, n, k, room);
-      marked = c.self.invariant.marked;
+      marked = c.limit_all.ensures.long ∙ c.self.invariant.marked;
       turn_places = c.self.invariant.turn_places;
       held_places = c.self.invariant.held_places;
       rises = subst (λ (l : List Pair). IsRising (λ (p : Pair). turn_at c.self.inside.turn_of.items p.0 p.1) l) (sym c.in_ok-reserve.ensures.pairs) c.self.invariant.rises;
@@ -113,7 +114,10 @@ returns-clause-level c t l =
     let apart = unknown_there w.cluster (job_at w.cells) t j.number old.level new in
     let found = λ (a : ℕ). c.admitted_jobs.ensures.found j t.jobs a apart in
     let empty = empty_slot w.cells j.number new in
-    let kept : KeptRecord = record { marks = c.self.inside.marks; turn_of = c.self.inside.turn_of.items; held = c.self.inside.held.items } in
+    let was : KeptRecord = record { marks = c.self.inside.marks; turn_of = c.self.inside.turn_of.items; held = c.self.inside.held.items } in
+    let limited = λ (m : ℕ) (o : get_or w.opened m false ≡ true). c.limit_all.ensures.marks m (let n = c.self.invariant.marked in let inside = open_there w.opened (length w.cluster.machines) c.cluster-cluster.ensures.sound.opened m o in omega (arith, n, inside)) in
+    let marks = c.limit_all.new.marks in
+    let kept : KeptRecord = record { marks = marks; turn_of = c.self.inside.turn_of.items; held = c.self.inside.held.items } in
     record {
       level = subst (λ (x : WishesRecord). AreLevel x.cluster (job_at x.cells) (record t { jobs = with_admitted j t.jobs })) (sym c.add_job.ensures)
           (level_admitted w.cluster (job_at w.cells) (job_at (set w.cells j.number xs)) t j old.level (job_admitted w.cells j (length w.cluster.machines) lt (units_some j c.units.ensures.valid)) found);
@@ -121,13 +125,13 @@ returns-clause-level c t l =
           (idle_admitted j w.cells (set w.cells j.number xs) w.opened t empty (asks_admitted w.cells j.number j.group (length w.cluster.machines) j.units lt empty) apart found (old.idle e));
       kept = subst (λ (l : List Pair). IsKept c.add_job.new.self.cells c.add_job.new.self.opened l c.self.inside.turns kept (record t { jobs = with_admitted j t.jobs })) (sym c.in_ok-reserve.ensures.pairs)
           (subst (λ (x : WishesRecord). IsKept x.cells x.opened c.self.inside.line.pairs c.self.inside.turns kept (record t { jobs = with_admitted j t.jobs })) (sym c.add_job.ensures)
-          (kept_admitted j w.cells (set w.cells j.number xs) w.opened t empty (asks_admitted w.cells j.number j.group (length w.cluster.machines) j.units lt empty) apart found c.self.inside.line.pairs c.self.inside.turns kept c.self.invariant.admitted old.kept));
+          (kept_admitted j w.cells (set w.cells j.number xs) w.opened t empty (asks_admitted w.cells j.number j.group (length w.cluster.machines) j.units lt empty) apart found c.self.inside.line.pairs c.self.inside.turns was marks limited c.self.invariant.admitted old.kept));
       clear = λ e f. subst (λ (l : List Pair). IsClear c.add_job.new.self.opened l kept.marks (record t { jobs = with_admitted j t.jobs })) (sym c.in_ok-reserve.ensures.pairs)
           (subst (λ (x : WishesRecord). IsClear x.opened c.self.inside.line.pairs kept.marks (record t { jobs = with_admitted j t.jobs })) (sym c.add_job.ensures)
-          (clear_admitted j w.cells (set w.cells j.number xs) w.opened t empty (asks_admitted w.cells j.number j.group (length w.cluster.machines) j.units lt empty) apart found c.self.inside.line.pairs kept.marks c.self.invariant.admitted (old.clear e f)));
+          (clear_admitted j w.cells (set w.cells j.number xs) w.opened t empty (asks_admitted w.cells j.number j.group (length w.cluster.machines) j.units lt empty) apart found c.self.inside.line.pairs c.self.inside.turns was.marks marks limited c.self.invariant.admitted (old.clear e f)));
       quiet = λ e. subst (λ (l : List Pair). IsQuiet c.add_job.new.self.cells c.add_job.new.self.opened l c.self.inside.turns kept.marks (record t { jobs = with_admitted j t.jobs })) (sym c.in_ok-reserve.ensures.pairs)
           (subst (λ (x : WishesRecord). IsQuiet x.cells x.opened c.self.inside.line.pairs c.self.inside.turns kept.marks (record t { jobs = with_admitted j t.jobs })) (sym c.add_job.ensures)
-          (quiet_admitted j w.cells (set w.cells j.number xs) w.opened t empty (asks_admitted w.cells j.number j.group (length w.cluster.machines) j.units lt empty) apart found c.self.inside.line.pairs c.self.inside.turns kept.marks (old.quiet e)));
+          (quiet_admitted j w.cells (set w.cells j.number xs) w.opened t empty (asks_admitted w.cells j.number j.group (length w.cluster.machines) j.units lt empty) apart found c.self.inside.line.pairs c.self.inside.turns was.marks marks limited (old.quiet e)));
       still = subst (λ (l : List Pair). IsStill c.add_job.new.self.cells l c.stir.new.self (record t { jobs = with_admitted j t.jobs })) (sym c.in_ok-reserve.ensures.pairs)
           (subst (λ (x : WishesRecord). IsStill x.cells c.self.inside.line.pairs c.stir.new.self (record t { jobs = with_admitted j t.jobs })) (sym c.add_job.ensures)
           (still_admitted j w.cells (set w.cells j.number xs) w.opened t empty (asks_admitted w.cells j.number j.group (length w.cluster.machines) j.units lt empty) apart found c.self.inside.calm c.stir.new.self

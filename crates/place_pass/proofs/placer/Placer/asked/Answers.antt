@@ -154,7 +154,7 @@ returns-clause-level c l =
           (kept_demanded w.cells (set w.cells a (taken_all w.cluster es 0 (get_or w.cells a []))) w.opened w.opened c.self.inside.line.pairs c.self.inside.turns (record { marks = c.self.inside.marks; turn_of = c.self.inside.turn_of.items; held = c.self.inside.held.items }) t c.tell_marks.new.marks
           (λ m o. told_asked es (get_or w.cells a []) m (mark_at c.self.inside.marks m) (mark_at c.tell_marks.new.marks m)
           ((b u : ℕ) → is_open_to (set w.cells a (taken_all w.cluster es 0 (get_or w.cells a []))) w.opened b u m ≡ true → is_open_to w.cells w.opened b u m ≡ true) (told_mark c m o)
-          (λ still b u. still_open w.cluster es w.cells w.opened a c.cluster-wishes.ensures.sound (slot_within w.cells a 0 here) m still b u)) (λ m o. o) old.kept);
+          (λ still b u. still_open w.cluster es w.cells w.opened a c.cluster-wishes.ensures.sound (slot_within w.cells a 0 here) m still b u)) (λ m o. o) (asked_long w.cluster es w.cells a (slot_within w.cells a 0 here)) old.kept);
       clear = λ e f.
           let b = both_true c.self.inside.idle (not c.hear-more.result) e in
           let none : any_more w.cluster es (get_or w.cells a []) (length (get_or w.cells a [])) ≡ false = sym c.hear-more.ensures.more ∙ not_true c.hear-more.result b.1 in

@@ -67,7 +67,7 @@ pub enter_line-requires-clause-rises : goal.enter_line-requires-clause-rises
 unfolding IsLevelWith
 enter_line-requires-clause-rises c =
     let old = subst (λ (p : PlacerRecord). IsLevelWith p c.args.table.now) (sym c.self.view_is) c.requires.level in
-    (lined_kept (lined_up c) c.self.inside.wishes.cells c.self.inside.wishes.opened c.self.inside.turns c.args.table.now (λ i p ge e. c.number_from.ensures.numbered i p ge e) old.kept).rises
+    (lined_kept (lined_up c) c.self.inside.wishes.cells c.self.inside.wishes.opened c.self.inside.turns c.args.table.now (λ i p ge e. c.number_from.ensures.numbered i p ge e) c.join.ensures.admitted old.kept).rises
 
 pub enter_line-requires-clause-inside : goal.enter_line-requires-clause-inside
 enter_line-requires-clause-inside c = front_inside (lined_up c)
@@ -105,7 +105,7 @@ invariant_of-self c =
       marked = c.self.invariant.marked;
       turn_places = c.number_from.ensures.places;
       held_places = c.self.invariant.held_places;
-      rises = (lined_kept (lined_then c) c.self.inside.wishes.cells c.self.inside.wishes.opened c.self.inside.turns c.args.table.now (λ i p ge e. c.number_from.ensures.numbered i p ge e) old.kept).rises;
+      rises = (lined_kept (lined_then c) c.self.inside.wishes.cells c.self.inside.wishes.opened c.self.inside.turns c.args.table.now (λ i p ge e. c.number_from.ensures.numbered i p ge e) c.join.ensures.admitted old.kept).rises;
       holds = c.enter_line.ensures.holds;
     }
 
@@ -175,7 +175,7 @@ returns-clause-level c =
     let long = ap length pairs ∙ length-append front joined in
     let more : c.len.result - c.len-stayed.result ≡ length joined = omega (arith, long, n, s) in
     let k : KeptRecord = record { marks = c.self.inside.marks; turn_of = c.self.inside.turn_of.items; held = c.self.inside.held.items } in
-    let kept = lined_kept (lined_then c) w.cells w.opened c.self.inside.turns t (λ i p ge e. c.number_from.ensures.numbered i p ge e) old.kept in
+    let kept = lined_kept (lined_then c) w.cells w.opened c.self.inside.turns t (λ i p ge e. c.number_from.ensures.numbered i p ge e) c.join.ensures.admitted old.kept in
     let none = λ (e : c.self.inside.idle ≡ true). none_joined line (map (λ (j : JobRecord). j.number) t.jobs) (unit_count (as_known t.jobs)) (asks_in w.cells) t.entries (old.quiet e).waiting in
     record {
       level = old.level;

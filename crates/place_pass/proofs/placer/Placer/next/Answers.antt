@@ -56,9 +56,9 @@ first-requires-clause-old g c m opened =
     subst (λ (xs : List ℕ). AreBounded (board_over w.cells w.opened c.args.table.now) c.args.table.now.entries (turn_in xs) c.self.inside.line.pairs (mark_at c.self.inside.marks m) m) (sym c.deref.ensures.value)
     (record { bounded = λ q has lt. l.kept.bounds m q.0 q.1 opened has lt })
 
-pub first-requires-clause-until : goal.first-requires-clause-until
+pub first-requires-clause-later : goal.first-requires-clause-later
 unfolding IsLevelWith
-first-requires-clause-until g c m opened = (subst (λ (p : PlacerRecord). IsLevelWith p c.args.table.now) (sym c.self.view_is) c.requires.level).kept.until m opened
+first-requires-clause-later g c m opened = (subst (λ (p : PlacerRecord). IsLevelWith p c.args.table.now) (sym c.self.view_is) c.requires.level).kept.later m opened
 
 pub first-requires-clause-tree : goal.first-requires-clause-tree
 unfolding IsLevelWith
@@ -175,7 +175,7 @@ returns-clause-level g c =
       still = l.still;
       kept = record {
         bounds = λ m a u opened has lt. (subst (λ (xs : List ℕ). AreBounded (board_over w.cells w.opened t) t.entries (turn_in xs) c.self.inside.line.pairs (mark_at c.first.new.marks m) m) c.deref.ensures.value (c.first.ensures.bounded m opened)).bounded (a, u) has lt;
-        until = c.first.ensures.until;
+        later = c.first.ensures.later;
         rises = l.kept.rises;
         below = l.kept.below;
         held = l.kept.held;
@@ -219,7 +219,7 @@ returns-in_default-clause-level g c =
       still = l.still;
       kept = kept_forgotten w.cells w.opened c.self.inside.line.pairs c.self.inside.turns k t marks forgotten (record {
         bounds = λ m a u opened has lt. (subst (λ (xs : List ℕ). AreBounded (board_over w.cells w.opened t) t.entries (turn_in xs) c.self.inside.line.pairs (mark_at c.first.new.marks m) m) c.deref.ensures.value (c.first.ensures.bounded m opened)).bounded (a, u) has lt;
-        until = c.first.ensures.until;
+        later = c.first.ensures.later;
         rises = l.kept.rises;
         below = l.kept.below;
         held = l.kept.held;

@@ -51,7 +51,7 @@ returns-clause-level c =
       stands = λ a u has. let f : false ≡ true = sym (ap (λ (ps : List Pair). has_pair (a, u) ps) c.in_ok-line.ensures) ∙ has in cc;
       kept = record {
         bounds = λ m a u opened has lt. let f : false ≡ true = sym (ap (λ (ps : List Pair). has_pair (a, u) ps) c.in_ok-line.ensures) ∙ has in cc;
-        until = λ m opened. let f : true ≡ false = sym opened ∙ ap (λ (w : WishesRecord). get_or w.opened m false) c.in_ok-wishes.ensures ∙ none_open (length c.args.cluster.now.machines) m in cc;
+        later = λ m opened a u turn here ge lt. let f : true ≡ false = sym opened ∙ ap (λ (w : WishesRecord). get_or w.opened m false) c.in_ok-wishes.ensures ∙ none_open (length c.args.cluster.now.machines) m in cc;
         rises = rising (λ (p : Pair). turn_at c.in_ok-turn_of.turn_of.items p.0 p.1) c.in_ok-line.line.pairs (subst (Rises (λ (p : Pair). turn_at c.in_ok-turn_of.turn_of.items p.0 p.1)) (sym c.in_ok-line.ensures) tt);
         below = λ a u has. let f : false ≡ true = sym (ap (λ (ps : List Pair). has_pair (a, u) ps) c.in_ok-line.ensures) ∙ has in cc;
         held = λ a u la lu. zero_at c.in_ok-held.held.items 2048 (c.in_ok-held.ensures.items_if_clones_equal (λ y e. search rules)) (a * 8 + u);
