@@ -1,5 +1,5 @@
 -- What a search reads, when it may run, and what it says of one machine.
-use Rattle.std.specs.Prelude.{◌≡◌, ◌≢◌, ℕ, ◌<◌, ◌≤◌, Bool, true, false, List, length, Option, None, Some, IfSome}
+use Rattle.std.specs.Prelude.{◌≡◌, ◌≢◌, ℕ, ◌<◌, Bool, true, false, List, length, Option, None, Some, IfSome}
 use Rattle.std.proofs.Common.{get_or}
 use Rattle.fuxi_terms.specs.Keys.{Pair}
 use Rattle.written_roles.specs.Masters.{out_of}

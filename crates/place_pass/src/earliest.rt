@@ -1,6 +1,6 @@
 //! What bounds all pairs of a short line on every machine at once, so that a machine on which none of them can be first needs no look.
 
-ghost use Rattle.std.specs.Prelude.{◌≡◌, ℕ, ◌<◌, ◌≤◌, List, true, [], length, Some};
+ghost use Rattle.std.specs.Prelude.{◌≡◌, ℕ, ◌<◌, ◌≤◌, List, true, [], length, Some, IfSome};
 ghost use Rattle.std.proofs.Common.{get_or};
 ghost use Rattle.fuxi_terms.specs.Cluster.{ClusterRecord};
 ghost use Rattle.fuxi_terms.specs.Tables.{Table};
@@ -10,7 +10,7 @@ ghost use Rattle.place_pass.specs.Bounds.{rank_of, rank_at, is_bound};
 ghost use Rattle.place_pass.specs.Sights.{turn_in};
 ghost use Rattle.place_pass.specs.Scenes.{board_in, CanSearch, IsEarliest};
 
-use crate::marks::{Rank, earliest};
+use crate::marks::Rank;
 use crate::search::{Scene, is_earlier_here, turn_of_unit};
 use crate::sparse::is_clear;
 use crate::wishes::Wishes;
@@ -18,7 +18,7 @@ use fuxi_terms::limits::MOST_RACKS;
 use schedule_unit::{AppNo, UnitNo};
 
 /// How many pairs a line has at most that is bounded. To settle a machine again costs a look at each of them.
-const SHORT_LINE: usize = 4;
+const SHORT_LINE: usize = 8;
 
 // A level that the unit comes no nearer than on any machine.
 fn least_level(wishes: &Wishes, app: AppNo, unit: UnitNo) -> u8
@@ -60,14 +60,11 @@ fn earlier_of(rank: Rank, other: Rank) -> Rank
     }
 }
 
-/// A rank that no pair of the line comes before on any machine. Of a line that is not short it is the earliest of all.
-pub(crate) fn earliest_of_line(scene: &Scene<'_>) -> Rank
+// A rank that no pair of the line comes before on any machine.
+fn rank_of_line(scene: &Scene<'_>) -> Rank
     requires ready { CanSearch scene.now }
     ensures { IsEarliest scene.now result }
 {
-    if scene.line.len() > SHORT_LINE {
-        return earliest();
-    }
     let mut rank = Rank {
         late: u8::MAX,
         level: u8::MAX,
@@ -78,4 +75,15 @@ pub(crate) fn earliest_of_line(scene: &Scene<'_>) -> Rank
         rank = earlier_of(rank, rank_anywhere(scene, app, unit));
     }
     rank
+}
+
+/// A rank that no pair of the line comes before on any machine, where the line is short.
+pub(crate) fn earliest(scene: &Scene<'_>) -> Option<Rank>
+    requires ready { CanSearch scene.now }
+    ensures { IfSome result (λ rank. IsEarliest scene.now rank) }
+{
+    if scene.line.len() > SHORT_LINE {
+        return None;
+    }
+    Some(rank_of_line(scene))
 }

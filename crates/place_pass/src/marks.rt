@@ -33,8 +33,8 @@ pub(crate) struct Rank {
     pub(crate) turn: u64,
 }
 
-/// The rank that no other comes before.
-pub(crate) fn earliest() -> Rank
+// The rank that no other comes before.
+fn earliest() -> Rank
     ensures { rank_of result ≡ zero_rank }
 {
     Rank {
@@ -219,7 +219,7 @@ impl Model for Marks {
 impl Marks {
     ghost use Rattle.std.specs.Prelude.{◌≡◌, ℕ, ◌+◌, ◌<◌, ◌≤◌, true, false, is_some, nat_eq, cond, length, replicate, List, None, IfOk, IfSome};
     ghost use Rattle.std.proofs.Common.{get_or};
-    ghost use Rattle.place_pass.specs.Bounds.{rank_of, mark_of, mark_at, key_of, reset_mark, bounded_mark, lowered_mark, taken_mark, is_bound};
+    ghost use Rattle.place_pass.specs.Bounds.{rank_of, mark_of, mark_at, key_of, reset_mark, bounded_mark, limited_mark, lowered_mark, taken_mark, is_bound};
     ghost use Rattle.std.specs.Option.{option_map};
     ghost use Rattle.place_pass.specs.PackedRanks.{IsAbove};
     ghost use Rattle.place_pass.specs.Sights.{found_rank};
@@ -317,7 +317,6 @@ impl Marks {
         ensures settled { best.new ≡ None → IsSettledBy scene.now machine.0 (mark_at self.new machine.0) }
         ensures empty { best.new ≡ None → best.old ≡ None }
     {
-        renew(&mut self.keys, &mut self.until, scene.turns);
         let mark = &mut self.marks[machine.0 as usize];
         consider(scene, machine, mark, steps, best);
         let key = number_of_mark(mark, self.until, machine.0);
@@ -332,7 +331,6 @@ impl Marks {
         ensures here { mark_at self.new machine ≡ bounded_mark (option_map rank_of bound) turns (mark_at self.old machine) }
         ensures others { (m : ℕ) → nat_eq machine m ≡ false → mark_at self.new m ≡ mark_at self.old m }
     {
-        renew(&mut self.keys, &mut self.until, turns);
         let mark = &mut self.marks[machine as usize];
         mark.set_bound(bound, turns);
         let key = number_of_mark(mark, self.until, machine);
@@ -369,6 +367,18 @@ impl Marks {
     {
         let mark = &mut self.marks[machine as usize];
         mark.lower();
+        let key = number_of_mark(mark, self.until, machine);
+        self.keys[machine as usize] = key;
+    }
+
+    // Pairs with this turn or a later one may be placeable on a machine.
+    fn limit(&mut self, machine: u32, turns: u64)
+        requires { machine < length self.old }
+        ensures long { length self.new ≡ length self.old }
+        ensures marks { (m : ℕ) → mark_at self.new m ≡ cond (nat_eq machine m) (limited_mark turns (mark_at self.old machine)) (mark_at self.old m) }
+    {
+        let mark = &mut self.marks[machine as usize];
+        mark.limit(turns);
         let key = number_of_mark(mark, self.until, machine);
         self.keys[machine as usize] = key;
     }
@@ -478,9 +488,7 @@ pub(crate) fn limit_all(marks: &mut Marks, turns: u64)
     ensures long { length marks.new ≡ length marks.old }
 {
     for number in 0..marks.len() {
-        let mut mark = *marks.at(number);
-        mark.limit(turns);
-        marks.put(number, mark);
+        marks.limit(number, turns);
     }
 }
 

@@ -22,7 +22,7 @@ ghost use Rattle.place_pass.specs.PackedRanks.{packed, IsAbove};
 ghost use Rattle.place_pass.specs.Sights.{IsBehind, AreBehind, ArePassed, limit_in, number_in, sight_rank, rank_with, found_rank, turn_in, IsFree, IsSight, AreBounded, is_first};
 ghost use Rattle.place_pass.specs.Scenes.{board_in, CanSearch, IsBestOn, IsMarked, IsSettledBy, AreMarked, IsFoundIn, IsLeastOn, IsEarliest};
 
-use crate::earliest::earliest_of_line;
+use crate::earliest::earliest;
 use crate::keys::{number_of, number_of_none};
 use crate::line::Line;
 use crate::marks::{Mark, Marks, Rank, settle_all, turn_fits};
@@ -619,14 +619,14 @@ fn consider_at<L: Ledger>(
 // The same of a machine beside the first: one on which no pair of the line can be the best is not looked at, and its mark says so.
 fn consider_other<L: Ledger>(
     scene: &Scene<'_>,
-    earliest: Rank,
+    earliest: Option<Rank>,
     machine: MachineNo,
     marks: &mut Marks,
     steps: &mut Steps<L>,
     best: &mut Option<Found>,
 )
     requires ready { CanSearch scene.now }
-    requires earliest { IsEarliest scene.now earliest }
+    requires earliest { IfSome earliest (λ rank. IsEarliest scene.now rank) }
     requires machine { machine.0 < length scene.now.table.now.cluster.machines }
     requires marked { length marks.old ≡ length scene.now.table.now.cluster.machines }
     requires old { AreMarked scene.now marks.old }
@@ -640,11 +640,13 @@ fn consider_other<L: Ledger>(
     ensures settled { best.new ≡ None → IsSettledBy scene.now machine.0 (mark_at marks.new machine.0) }
     ensures empty { best.new ≡ None → best.old ≡ None }
 {
-    if may_be_first(best, &earliest, machine) {
-        consider_at(scene, machine, marks, steps, best);
-        return;
+    if let Some(rank) = earliest {
+        if !may_be_first(best, &rank, machine) {
+            marks.set_bound(machine.0, Some(rank), scene.turns);
+            return;
+        }
     }
-    marks.set_bound(machine.0, Some(earliest), scene.turns);
+    consider_at(scene, machine, marks, steps, best);
 }
 
 // The number of the best so far.
@@ -763,7 +765,7 @@ fn best_of_others<L: Ledger>(
     if at >= marks.len() {
         return;
     }
-    let earliest = earliest_of_line(scene);
+    let earliest = earliest(scene);
     while at < marks.len() {
         consider_other(scene, earliest, MachineNo(at), marks, steps, best);
         at = next_other(marks, start, at + 1, scene.turns, best);
@@ -839,6 +841,7 @@ pub(crate) fn first<L: Ledger>(
     ensures count { steps.new ≤ steps.old + count_below (λ m. is_unsettled_by wishes.now.opened (mark_at marks.old m) turns m) (length table.now.cluster.machines) }
     ensures settled { result ≡ None → (m : ℕ) → m < length table.now.cluster.machines → get_or wishes.now.opened m false ≡ true → key_of (mark_at marks.new m) turns ≡ None }
 {
+    marks.renew(turns);
     if line.len() == 0 {
         settle_all(marks, turns);
         return None;

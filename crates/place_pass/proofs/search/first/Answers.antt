@@ -1,11 +1,11 @@
-use Rattle.std.proofs.Common.{◌≡◌, ℕ, ◌<◌, Bool, true, false, List, Option, None, Some, get_or, sym, ◌∙◌, subst, length, arith, inl, inr}
+use Rattle.std.proofs.Common.{◌≡◌, ℕ, ◌+◌, ◌<◌, ◌≤◌, Bool, true, false, List, Option, None, Some, get_or, sym, ◌∙◌, ap, subst, length, arith, inl, inr}
 use Rattle.std.specs.Prelude.{IfSome}
 use Rattle.fuxi_terms.specs.Keys.{Pair}
 use Rattle.written_roles.specs.Placing.{has_pair}
 use Rattle.place_pass.specs.Bounds.{MarkRecord, mark_at, key_of, AreBoundedLater}
 use Rattle.place_pass.specs.Placers.{board_over}
-use Rattle.place_pass.specs.SearchCounts.{is_unsettled_by}
-use Rattle.place_pass.specs.Sights.{AreBehind, found_rank, turn_in, IsFound, IsLeast}
+use Rattle.place_pass.specs.SearchCounts.{is_unsettled_by, count_below}
+use Rattle.place_pass.specs.Sights.{AreBehind, AreBounded, found_rank, turn_in, IsFound, IsLeast}
 use Rattle.place_pass.specs.declared.search.Found.{Found}
 use Rattle.place_pass.specs.declared.search.Least.{Least}
 use Rattle.place_pass.proofs.FirstByTurn.{none_first, found_first}
@@ -35,7 +35,7 @@ returns-then-len-eq0-clause-later g c m opened =
     let w = c.args.wishes.now in
     let t = c.args.table.now in
     elim (c.settle_all.ensures.until m) [
-      | inl same ↦ subst (λ (k : MarkRecord). AreBoundedLater (board_over w.cells w.opened t) t.entries w.cells c.args.turns k m) (sym same) (c.requires.later m opened)
+      | inl same ↦ subst (λ (k : MarkRecord). AreBoundedLater (board_over w.cells w.opened t) t.entries w.cells c.args.turns k m) (sym (same ∙ ap (λ (ks : List MarkRecord). mark_at ks m) c.renew.ensures)) (c.requires.later m opened)
       | inr le ↦ λ a u turn here ge lt. absurd (omega (arith, le, ge, lt))
     ]
 
@@ -45,25 +45,31 @@ returns-in_default-clause-first g c =
     let t = c.args.table.now in
     let f = turn_in c.args.turn_of.now in
     let line = c.args.line.now.pairs in
-    sym (none_first (board_over w.cells w.opened t) t.entries f line (λ m lt. least_settled w.cells w.opened t f line (mark_at c.args.marks.now m) m c.args.turns None (settled c.args.wishes.now.opened c.args.marks.now c.args.turns (length c.args.table.now.cluster.machines) c.least_machine.result c.requires.marked c.in_default.is c.least_machine.ensures.behind m lt) c.requires.below (c.requires.old m)))
+    sym (none_first (board_over w.cells w.opened t) t.entries f line (λ m lt. least_settled w.cells w.opened t f line (mark_at c.args.marks.now m) m c.args.turns None (settled c.args.wishes.now.opened c.args.marks.now c.args.turns (length c.args.table.now.cluster.machines) c.least_machine.result c.requires.marked c.in_default.is (subst (λ (ks : List MarkRecord). AreBehind c.args.wishes.now.opened ks c.args.turns (length ks) c.least_machine.result) c.renew.ensures c.least_machine.ensures.behind) m lt) c.requires.below (c.requires.old m)))
 
 pub returns-in_default-clause-settled : goal.returns-in_default-clause-settled
-returns-in_default-clause-settled g c e m lt opened = settled_key (get_or c.args.wishes.now.opened m false) (key_of (mark_at c.args.marks.now m) c.args.turns) (settled c.args.wishes.now.opened c.args.marks.now c.args.turns (length c.args.table.now.cluster.machines) c.least_machine.result c.requires.marked c.in_default.is c.least_machine.ensures.behind m lt) opened
+returns-in_default-clause-settled g c e m lt opened = ap (λ (ks : List MarkRecord). key_of (mark_at ks m) c.args.turns) c.renew.ensures ∙ settled_key (get_or c.args.wishes.now.opened m false) (key_of (mark_at c.args.marks.now m) c.args.turns) (settled c.args.wishes.now.opened c.args.marks.now c.args.turns (length c.args.table.now.cluster.machines) c.least_machine.result c.requires.marked c.in_default.is (subst (λ (ks : List MarkRecord). AreBehind c.args.wishes.now.opened ks c.args.turns (length ks) c.least_machine.result) c.renew.ensures c.least_machine.ensures.behind) m lt) opened
 
 pub best_from_least-requires-clause-ready : goal.best_from_least-requires-clause-ready
 best_from_least-requires-clause-ready g c = record { level = c.requires.level; admitted = c.requires.admitted; places = c.requires.places; waits = c.requires.waits; rises = c.requires.rises; below = c.requires.below; tree = c.requires.tree }
 
 pub best_from_least-requires-clause-old : goal.best_from_least-requires-clause-old
-best_from_least-requires-clause-old g c m = record { bounded = c.requires.old m; later = c.requires.later m }
+best_from_least-requires-clause-old g c m =
+    let w = c.args.wishes.now in
+    let t = c.args.table.now in
+    record {
+      bounded = λ opened. subst (λ (ks : List MarkRecord). AreBounded (board_over w.cells w.opened t) t.entries (turn_in c.args.turn_of.now) c.args.line.now.pairs (mark_at ks m) m) (sym c.renew.ensures) (c.requires.old m opened);
+      later = λ opened. subst (λ (ks : List MarkRecord). AreBoundedLater (board_over w.cells w.opened t) t.entries w.cells c.args.turns (mark_at ks m) m) (sym c.renew.ensures) (c.requires.later m opened);
+    }
 
 pub best_from_least-requires-clause-there : goal.best_from_least-requires-clause-there
 best_from_least-requires-clause-there g c =
-    subst (λ n. c.in-Some.least.machine.0 < n) c.requires.marked (subst (λ (o : Option Least). IfSome o (λ x. x.machine.0 < length c.args.marks.now)) c.in-Some.is c.least_machine.ensures.there)
+    subst (λ n. c.in-Some.least.machine.0 < n) (ap length c.renew.ensures ∙ c.requires.marked) (subst (λ (o : Option Least). IfSome o (λ x. x.machine.0 < length c.renew.new.self)) c.in-Some.is c.least_machine.ensures.there)
 
 pub best_from_least-requires-clause-behind : goal.best_from_least-requires-clause-behind
 best_from_least-requires-clause-behind g c =
-    subst (λ n. AreBehind c.args.wishes.now.opened c.args.marks.now c.args.turns n (Some c.in-Some.least)) c.requires.marked
-    (subst (AreBehind c.args.wishes.now.opened c.args.marks.now c.args.turns (length c.args.marks.now)) c.in-Some.is c.least_machine.ensures.behind)
+    subst (λ n. AreBehind c.args.wishes.now.opened c.renew.new.self c.args.turns n (Some c.in-Some.least)) (ap length c.renew.ensures ∙ c.requires.marked)
+    (subst (AreBehind c.args.wishes.now.opened c.renew.new.self c.args.turns (length c.renew.new.self)) c.in-Some.is c.least_machine.ensures.behind)
 
 pub returns-in-Some-best_from_least-clause-first : goal.returns-in-Some-best_from_least-clause-first
 returns-in-Some-best_from_least-clause-first g c =
@@ -93,3 +99,7 @@ returns-in-None-clause-later g c m opened = (c.best_from_least.ensures.marks m).
 
 pub returns-in-None-clause-settled : goal.returns-in-None-clause-settled
 returns-in-None-clause-settled g c e m lt opened = c.best_from_least.ensures.settled c.in-None.is m lt opened
+
+pub returns-in-Some-best_from_least-clause-count : goal.returns-in-Some-best_from_least-clause-count
+returns-in-Some-best_from_least-clause-count g c =
+    subst (λ (ks : List MarkRecord). c.best_from_least.new.steps ≤ c.args.steps.now + count_below (λ m. is_unsettled_by c.args.wishes.now.opened (mark_at ks m) c.args.turns m) (length c.args.table.now.cluster.machines)) c.renew.ensures c.best_from_least.ensures.count
