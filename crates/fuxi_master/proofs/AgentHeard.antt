@@ -26,9 +26,9 @@ use Rattle.core_side.specs.CoreSides.{HearsAlike}
 use Rattle.broadcast.specs.Projections.{row_of}
 use Rattle.broadcast.specs.AllShown.{Down}
 use Rattle.fuxi_master.specs.Cores.{CoreRecord, IsCore, IsWithin, StandsFor}
-use Rattle.fuxi_master.specs.Heard.{ReportTest, excess_by, is_too_much, heard_of, with_heard, HearsAgent, IsDue, IsAgentHeard, Brings}
+use Rattle.fuxi_master.specs.Heard.{ReportTest, excess_by, is_too_much, heard_of, with_heard, HearsAgent, IsDue}
 use Rattle.fuxi_master.proofs.AgentHeardAlike.{test_of, stands_heard, heard_side, hears_agent}
-use Rattle.fuxi_master.proofs.Indexed.{got_set, each_set, length_set, all_from}
+use Rattle.fuxi_master.proofs.Indexed.{each_set, length_set, all_from}
 
 -- what a machine has, in eight places
 pub has_is : (ms : List MachineRecord) (m : ℕ) (seen : Machine) → option_map machine_seen (slice_get ms m) ≡ Some seen → seen.has.q ≡ padded (unwrap_or (slice_get ms m) no_machine).has
@@ -61,7 +61,7 @@ module _ (x : CoreRecord) (core : IsCore x) (m : ℕ) (old new : Down) (packet :
   each : (P : ℕ → Down → Type 0) → ((n : ℕ) (d : Down) → slice_get x.agents n ≡ Some d → P n d) → P m new → (n : ℕ) (d : Down) → slice_get after.agents n ≡ Some d → P n d
   each P h here = each_set P x.agents m new lt here (λ n d _ e. h n d e)
 
-  heard_core : IsCore after
+  pub heard_core : IsCore after
   heard_core = record {
     near = record {
       kept = record {
@@ -91,7 +91,7 @@ module _ (x : CoreRecord) (core : IsCore x) (m : ℕ) (old new : Down) (packet :
     told = record { told = core.told.told };
   }
 
-  heard_within : (n : ℕ) → IsWithin n x → IsWithin n after
+  pub heard_within : (n : ℕ) → IsWithin n x → IsWithin n after
   heard_within n w = record {
     agents = all_from (λ (d : Down). d.outgoing.last ≤ n) after.agents (each (λ _ (d : Down). d.outgoing.last ≤ n)
         (λ k d e. all_at (λ (d : Down). d.outgoing.last ≤ n) x.agents k d w.agents e)
@@ -101,10 +101,10 @@ module _ (x : CoreRecord) (core : IsCore x) (m : ℕ) (old new : Down) (packet :
   }
 
   module _ (due : Bool) (made : due ≡ (is_taken heard.what && (nat_eq new.incoming.received.epoch x.epoch && not test.reported))) where
-    heard_alike : (r : MasterRole) → StandsFor x r → HearsAgent m packet heard due after r
+    pub heard_alike : (r : MasterRole) → StandsFor x r → HearsAgent m packet heard due after r
     heard_alike r h = hears_agent x m old new packet heard test lt at hears to r h (is r h) due made
 
-    heard_due : due ≡ true → IsDue m after
+    pub heard_due : due ≡ true → IsDue m after
     heard_due d =
         let r = core.near.role in
         let h = core.near.stands in
@@ -149,16 +149,3 @@ module _ (x : CoreRecord) (core : IsCore x) (m : ℕ) (old new : Down) (packet :
               | true ↦ λ _. fits-zeros 8 has
               | false ↦ λ e. not_false (fits (row_total rows) has) e
             ] left
-
-  -- what was heard, whether it is adopted now or not
-  pub agent_heard : test.reported ≡ has_number m x.reported.numbers → IsAgentHeard m packet heard x after
-  agent_heard reported = record {
-    core = heard_core;
-    machines = length_set x.agents m new;
-    within = heard_within;
-    hears = λ due brings. heard_alike due (made due brings);
-    waits = λ brings. heard_due true (made true brings) refl;
-  }
-    where
-      made : (due : Bool) → Brings m heard due after → due ≡ (is_taken heard.what && (nat_eq new.incoming.received.epoch x.epoch && not test.reported))
-      made due brings = brings new (got_set x.agents m new m lt ∙ ap (λ b. cond b (Some new) (slice_get x.agents m)) (nat_itself m)) ∙ ap (λ b. is_taken heard.what && (nat_eq new.incoming.received.epoch x.epoch && not b)) (sym reported)

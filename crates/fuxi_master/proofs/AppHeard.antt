@@ -1,10 +1,9 @@
 -- A core that heard an application is in order, but that its grants do not have a new boot yet.
-use Rattle.std.proofs.Common.{◌≡◌, ℕ, ◌<◌, ◌≤◌, Bool, true, false, cond, not, nat_eq, nat_lt, length, set, Option, Some, None, Result, Ok, Err, slice_get, refl, sym, ◌∙◌, ap, subst, arith}
-use Rattle.std.specs.Prelude.{◌&&◌, ◌||◌, is_some, IfSome, IfOk, if◌then◌else◌}
+use Rattle.std.proofs.Common.{◌≡◌, ℕ, ◌<◌, ◌≤◌, Bool, true, false, cond, not, nat_eq, nat_lt, length, set, Option, Some, None, Ok, slice_get, refl, sym, ◌∙◌, ap, subst, arith}
+use Rattle.std.specs.Prelude.{◌&&◌, ◌||◌, is_some, IfSome, if◌then◌else◌}
 use Rattle.std.proofs.lemmas.Bool.Decides.{nat_tests}
 use Rattle.std.proofs.lemmas.Option.{slice_get_within, IfSome_then}
 use Rattle.fuxi_terms.specs.Counts.{count}
-use Rattle.fuxi_terms.specs.declared.OutOfMemory.{OutOfMemory}
 use Rattle.fuxi_terms.specs.Jobs.{is_known, is_live, has_ended, unit_count}
 use Rattle.fuxi_terms.specs.Keys.{key_cmp}
 use Rattle.fuxi_terms.specs.Tallies.{ChangeRecord, empty_tally}
@@ -193,7 +192,7 @@ module _ (x : CoreRecord) (core : IsCore x) (a : ℕ) (old new : App) (packet : 
   heard_alike : (r : MasterRole) → StandsFor x r → HearsApp a packet heard after r
   heard_alike r h = hears_app x a old new packet heard lt at known hears outgoing to r h
 
-  app_heard : heard.fresh ≡ nat_lt old.incoming.place.inc packet.from.inc → new.incoming.place.inc ≡ (if nat_lt old.incoming.place.inc packet.from.inc then packet.from.inc else old.incoming.place.inc)
+  pub app_heard : heard.fresh ≡ nat_lt old.incoming.place.inc packet.from.inc → new.incoming.place.inc ≡ (if nat_lt old.incoming.place.inc packet.from.inc then packet.from.inc else old.incoming.place.inc)
       → (change : Option ChangeRecord) → IfSome change (λ change. ((nat_eq old.incoming.received.head x.epoch && not (has_ended x.known.jobs a)) ≡ true) × (packet.body ≡ DemandDelta change)) → IsAppHeard a packet heard change x after
   unfolding heard_near
   app_heard fresh peer change told = record {
@@ -204,15 +203,6 @@ module _ (x : CoreRecord) (core : IsCore x) (a : ℕ) (old new : App) (packet : 
     hears = heard_alike;
     asks = IfSome_then change told (λ change was. changes_asked was.0 change was.1);
   }
-
--- what was heard, where it was
-pub app_answered : (x : CoreRecord) → IsCore x → (a : ℕ) (old new : App) (packet : Packet) → slice_get x.apps a ≡ Some (Some old) → is_known x.known.jobs a ≡ true → new.outgoing ≡ old.outgoing → (packet_of packet).to.id ≡ master_id
-    → new.incoming.place.inc ≡ (if nat_lt old.incoming.place.inc packet.from.inc then packet.from.inc else old.incoming.place.inc)
-    → (change : Option ChangeRecord) → IfSome change (λ change. ((nat_eq old.incoming.received.head x.epoch && not (has_ended x.known.jobs a)) ≡ true) × (packet.body ≡ DemandDelta change))
-    → (heard : Result Heard OutOfMemory) → IfOk heard (HearsAlike empty_tally patched_grants (IsTally greatest_grant) tally_of tally_of (λ l. None) packet old new) → IfOk heard (λ h. h.fresh ≡ nat_lt old.incoming.place.inc packet.from.inc)
-    → IfOk heard (λ h. IsAppHeard a packet h change x (record x { apps = set x.apps a (Some new) }))
-app_answered x core a old new packet at known outgoing to peer change told (Ok heard) hears fresh = app_heard x core a old new packet heard at known hears outgoing to fresh peer change told
-app_answered x core a old new packet at known outgoing to peer change told (Err fault) hears fresh = tt
 
 -- the number of an application that sends
 pub app_number : (x : Packet) → IsFormed x → x.from.role ≡ AsApp → x.from.number < most_machines

@@ -1,5 +1,5 @@
 -- What a core makes of a packet, before the end of the step.
-use Rattle.std.specs.Prelude.{◌≡◌, ℕ, Bool, true, false, cond, not, nat_eq, ◌&&◌, T, List, [], length, Option, Some, None, IfSome, slice_get}
+use Rattle.std.specs.Prelude.{◌≡◌, ℕ, Bool, true, false, cond, not, nat_eq, ◌&&◌, T, List, [], Option, Some, None, IfSome, slice_get}
 use Rattle.std.specs.List.{AllByRecursion}
 use Rattle.fuxi_terms.specs.declared.vectors.Res.{Res}
 use Rattle.fuxi_terms.specs.declared.vectors.Sum.{Sum}
@@ -70,21 +70,16 @@ pub record HearsAgent (m : ℕ) (x : Packet) (heard : Heard) (due : Bool) (new :
   pub due_is : due ≡ (is_taken (heard_of r (agent_id m) x).what && adopts r.state m (heard_of r (agent_id m) x).side.got)
   pub fits : due ≡ true → report_excess r.cluster r.state (agent_id m) (heard_of r (agent_id m) x).side.got ≡ None
 
--- due: what was heard of an agent is a report that is adopted now
-abbrev pub Brings : ℕ → Heard → Bool → CoreRecord → Type 0
-Brings m heard due x = (d : Down) → slice_get x.agents m ≡ Some d → due ≡ (is_taken heard.what && (nat_eq d.incoming.received.epoch x.epoch && not (has_number m x.reported.numbers)))
-
 -- a machine whose report came and is not adopted yet; what would be kept of it fits
 pub record IsDue (m : ℕ) (x : CoreRecord) : Type 0 where
   pub unreported : has_number m x.reported.numbers ≡ false
   pub fits : (d : Down) → slice_get x.agents m ≡ Some d → fits (row_total (kept_of x.known m d.incoming.received.table)) (padded (machine_of x.allotment.table.cluster m).has) ≡ true
 
-pub record IsAgentHeard (m : ℕ) (x : Packet) (heard : Heard) (old new : CoreRecord) : Type 0 where
+pub record IsAgentHeard (m : ℕ) (x : Packet) (heard : Heard) (due : Bool) (old new : CoreRecord) : Type 0 where
   pub core : IsCore new
-  pub machines : length new.agents ≡ length old.agents
   pub within : (n : ℕ) → IsWithin n old → IsWithin n new
-  pub hears : (due : Bool) → Brings m heard due new → (r : MasterRole) → StandsFor old r → HearsAgent m x heard due new r
-  pub waits : Brings m heard true new → IsDue m new
+  pub hears : (r : MasterRole) → StandsFor old r → HearsAgent m x heard due new r
+  pub waits : due ≡ true → IsDue m new
 
 -- the state that adopts what came of an agent, and then with its line up to date
 abbrev pub adopting : Master → ℕ → Ledger → Master

@@ -1,19 +1,20 @@
 //! What a master hears of agents.
 
-ghost use Rattle.std.specs.Prelude.{◌≡◌, ◌<◌, ◌^◌, length, Some, None, IfOk};
+ghost use Rattle.std.specs.Prelude.{◌≡◌, ◌<◌, ◌^◌, not, nat_eq, ◌&&◌, length, Some, None, IfOk};
 ghost use Rattle.party_ledgers.specs.Packets.{IsFormed};
 ghost use Rattle.schedule_unit.specs.declared.party.Role.TheVariants.{Master as AsMaster, Agent as AsAgent};
+ghost use Rattle.written_net.specs.Net.{is_taken};
 ghost use Rattle.fuxi_master.specs.Cores.{IsCore};
-ghost use Rattle.fuxi_master.specs.Heard.{IsAgentHeard, IsAdopted, IsDue, Brings};
+ghost use Rattle.fuxi_master.specs.Heard.{IsAgentHeard, IsAdopted, IsDue};
 ghost use Rattle.fuxi_master.specs.Seen.{core_of};
 
 use crate::state::{Core, news};
 use broadcast::News;
-use core_side::{Excess, Limit, Refusal};
+use core_side::{Excess, Limit, Refusal, Side};
 use failover::{AdoptFault, adopt, kept_total};
 use fuxi_terms::OutOfMemory;
 use hard_state::Known;
-use party_ledgers::{Heard, JoinLedger, Kind, Packet, What};
+use party_ledgers::{Heard, JoinLedger, Kind, Packet, RowLedger, What};
 use res_vector::{Res, sum_fits};
 use schedule_unit::MachineNo;
 use std::alloc::Global;
@@ -69,9 +70,20 @@ impl<'a> Limit<JoinLedger> for ReportLimit<'a> {
     }
 }
 
+// Whether a report was taken that is adopted now.
+fn is_due(heard: &Heard, side: &Side<RowLedger, JoinLedger>, epoch: u64, reported: bool) -> bool
+    ensures { result ≡ (is_taken heard.now.what && (nat_eq side.now.incoming.received.epoch epoch && not reported)) }
+{
+    matches!(heard.what, What::Taken) && side.got().epoch() == epoch && !reported
+}
+
 impl Core {
-    // Hears a packet of the agent of a machine.
-    pub(crate) fn hear_agent(&mut self, alloc: Global, packet: Packet) -> Result<Heard, OutOfMemory>
+    // Hears a packet of the agent of a machine. Whether it brought a report that is adopted now.
+    pub(crate) fn hear_agent(
+        &mut self,
+        alloc: Global,
+        packet: Packet,
+    ) -> Result<(Heard, bool), OutOfMemory>
         requires core { IsCore (core_of self.old) }
         requires formed { IsFormed packet }
         requires no_end { packet.kind ≡ Kind.End → ⊥ }
@@ -79,7 +91,7 @@ impl Core {
         requires machine { packet.from.number < length self.old.allotment.table.cluster.machines }
         requires to { packet.to.role ≡ AsMaster }
         requires zero { packet.to.number ≡ 0 }
-        ensures { IfOk result (λ heard. IsAgentHeard packet.from.number packet heard (core_of self.old) (core_of self.new)) }
+        ensures { IfOk result (λ after. IsAgentHeard packet.from.number packet after.0 after.1 (core_of self.old) (core_of self.new)) }
     {
         let machine = MachineNo(packet.from.number);
         let limit = ReportLimit {
@@ -89,17 +101,10 @@ impl Core {
             reported: self.reported.has(machine),
             banned: self.known.banned(machine),
         };
-        self.agents[machine.0 as usize].hear_moved(alloc, packet, &limit, &mut ())
-    }
-
-    // Whether what was heard of the agent of a machine is a report that is adopted now.
-    pub(crate) fn is_due(&self, heard: &Heard, machine: MachineNo) -> bool
-        requires { machine.0 < length self.now.agents.items }
-        ensures { Brings machine.0 heard.now result (core_of self.now) }
-    {
-        matches!(heard.what, What::Taken)
-            && self.agents[machine.0 as usize].got().epoch() == self.epoch
-            && !self.reported.has(machine)
+        let side = &mut self.agents[machine.0 as usize];
+        let heard = side.hear_moved(alloc, packet, &limit, &mut ())?;
+        let due = is_due(&heard, side, limit.epoch, limit.reported);
+        Ok((heard, due))
     }
 
     // Adopts the report of a machine.

@@ -31,13 +31,12 @@ use schedule_unit::AppNo;
 use std::alloc::Global;
 
 impl Core {
-    // Hears a packet of the application of a known job. A change of a demand that counted is moved out of it.
+    // Hears a packet of the application of a known job. A change of a demand that counted is handed back.
     pub(crate) fn hear_app(
         &mut self,
         alloc: Global,
         packet: Packet,
-        change: &mut Option<Change>,
-    ) -> Result<Heard, OutOfMemory>
+    ) -> Result<(Heard, Option<Change>), OutOfMemory>
         requires core { IsCore (core_of self.old) }
         requires formed { IsFormed packet }
         requires no_end { packet.kind ≡ Kind.End → ⊥ }
@@ -45,15 +44,15 @@ impl Core {
         requires known { is_known self.old.known.jobs packet.from.number ≡ true }
         requires to { packet.to.role ≡ AsMaster }
         requires zero { packet.to.number ≡ 0 }
-        requires none { change.old ≡ None }
-        ensures { IfOk result (λ heard. IsAppHeard packet.from.number packet heard change.new (core_of self.old) (core_of self.new)) }
+        ensures { IfOk result (λ told. IsAppHeard packet.from.number packet told.0 told.1 (core_of self.old) (core_of self.new)) }
     {
         let app = AppNo(packet.from.number);
         let Some(side) = &mut self.apps[app.0 as usize] else {
             unreachable!()
         };
         let counted = counts(true, side, self.epoch, &self.known, app);
-        hear(alloc, side, packet, counted, change)
+        let told = hear(alloc, side, packet, counted)?;
+        Ok(told)
     }
 
     // Takes what came of an application that is new, or whose demand was taken.
@@ -91,31 +90,29 @@ impl Core {
     }
 }
 
-// Hears a packet of an application. Where what was received of it counts, a change that it brings is moved out of it.
+// Hears a packet of an application. Where what was received of it counts, a change that it brings is handed back.
 fn hear(
     alloc: Global,
     side: &mut Side<Grants, Demand>,
     packet: Packet,
     counted: bool,
-    change: &mut Option<Change>,
-) -> Result<Heard, OutOfMemory>
+) -> Result<(Heard, Option<Change>), OutOfMemory>
     requires formed { IsFormed packet }
     requires no_end { packet.kind ≡ Kind.End → ⊥ }
     requires from { packet.from.role ≡ AsApp }
     requires to { packet.to.role ≡ AsMaster }
-    requires none { change.old ≡ None }
-    ensures hears { IfOk result (HearsAlike empty_tally patched_grants (IsTally greatest_grant) tally_of tally_of (λ l. None) packet side.old side.new) }
-    ensures fresh { IfOk result (λ heard. heard.fresh ≡ nat_lt side.old.incoming.place.inc packet.from.inc) }
+    ensures hears { IfOk result (λ told. HearsAlike empty_tally patched_grants (IsTally greatest_grant) tally_of tally_of (λ l. None) packet side.old side.new told.0) }
+    ensures fresh { IfOk result (λ told. told.0.fresh ≡ nat_lt side.old.incoming.place.inc packet.from.inc) }
     ensures peer { side.new.incoming.place.inc ≡ (if nat_lt side.old.incoming.place.inc packet.from.inc then packet.from.inc else side.old.incoming.place.inc) }
     ensures outgoing { side.new.outgoing ≡ side.old.outgoing }
-    ensures change { IfSome change.new (λ change. (counted ≡ true) × (packet.body ≡ DemandDelta change)) }
+    ensures change { IfOk result (λ told. IfSome told.1 (λ change. (counted ≡ true) × (packet.body ≡ DemandDelta change))) }
 {
     if !counted || packet.kind != Kind::Delta {
-        return side.hear_moved(alloc, packet, &NoLimit, &mut ());
+        let heard = side.hear_moved(alloc, packet, &NoLimit, &mut ())?;
+        return Ok((heard, None));
     }
-    let heard = side.hear(alloc, &packet, &NoLimit, &mut ());
-    *change = change_in(packet);
-    heard
+    let heard = side.hear(alloc, &packet, &NoLimit, &mut ())?;
+    Ok((heard, change_in(packet)))
 }
 
 // The change of a demand that a packet brings.

@@ -21,6 +21,7 @@ ghost use Rattle.fuxi_master.specs.Steps.{IsFitting, IsSentFormed, StepsAlike, i
 
 use crate::event::{MasterEvent, Outcome};
 use crate::state::Core;
+use crate::step::stepped;
 use bad_nodes::Votes;
 use cluster_desc::Cluster;
 use delta_channel::Place;
@@ -91,19 +92,14 @@ impl Master {
         ensures formed { IfOk result (λ after. IsSentFormed after.1) }
     {
         let Master { core, steps } = self;
-        let (mut core, steps) = (core, steps + 1);
-        match event {
-            // A core in which a job is admitted is moved and not lent.
-            MasterEvent::Admit(job) => {
-                let after = Box::into_inner(core).step_admit(alloc, &job, steps)?;
-                let core = Box::new(alloc, after)?;
-                Ok((Master { core, steps }, Outcome::Done))
-            }
-            event => match core.step(alloc, event, steps) {
-                Ok(outcome) => Ok((Master { core, steps }, outcome)),
-                Err(fault) => Err(fault),
+        let (core, outcome) = stepped(core, alloc, event, steps + 1)?;
+        Ok((
+            Master {
+                core,
+                steps: steps + 1,
             },
-        }
+            outcome,
+        ))
     }
 
     /// Its epoch.

@@ -11,8 +11,7 @@ ghost use Rattle.written_net.specs.Channels.{master_id};
 ghost use Rattle.core_side.specs.Parcels.{packet_of};
 ghost use Rattle.fuxi_master.specs.Cores.{IsCore, IsWithin};
 ghost use Rattle.fuxi_master.specs.Seen.{core_of};
-ghost use Rattle.fuxi_master.specs.Steps.{IsFitting, IsStep};
-ghost use Rattle.fuxi_master.specs.declared.event.Outcome.TheVariants.{Done};
+ghost use Rattle.fuxi_master.specs.Steps.{IsFitting, IsStep, IsHeard};
 
 use crate::event::{MasterEvent, MasterRefusal, Outcome};
 use crate::state::{Core, news};
@@ -21,11 +20,11 @@ use party_ledgers::{Heard, Kind, Packet, What};
 use schedule_unit::{AppNo, Job, MachineNo, Role};
 use std::alloc::Global;
 
-// What the packet of a stranger is answered.
-const STRANGER: Outcome = Outcome::Heard(Heard {
+// As what the packet of a stranger is heard.
+const STRANGER: Heard = Heard {
     fresh: false,
     what: What::Stranger,
-});
+};
 
 // Whether a packet is for the master.
 fn is_for_master(packet: &Packet) -> bool
@@ -41,9 +40,35 @@ fn is_taken(heard: &Heard) -> bool
     matches!(heard.what, What::Taken)
 }
 
+// One step of a core on the heap, which is the one of this number. It stays where it is unless a job is admitted.
+pub(crate) fn stepped(
+    core: Box<Core>,
+    alloc: Global,
+    event: MasterEvent,
+    steps: u64,
+) -> Result<(Box<Core>, Outcome), OutOfMemory>
+    requires core { IsCore (core_of core.value) }
+    requires fitting { IsFitting (core_of core.value) event }
+    requires within { IsWithin steps (core_of core.value) }
+    requires steps { steps ≤ most_steps }
+    ensures { IfOk result (λ after. IsStep event steps (core_of core.value) (core_of after.0.value) after.1) }
+{
+    let mut core = core;
+    match event {
+        MasterEvent::Admit(job) => {
+            let (after, outcome) = Box::into_inner(core).step_admit(alloc, &job, steps)?;
+            Ok((Box::new(alloc, after)?, outcome))
+        }
+        event => {
+            let outcome = core.step(alloc, event, steps)?;
+            Ok((core, outcome))
+        }
+    }
+}
+
 impl Core {
     // One step of any kind but the admission of a job. It is the one of this number.
-    pub(crate) fn step(
+    fn step(
         &mut self,
         alloc: Global,
         event: MasterEvent,
@@ -57,7 +82,10 @@ impl Core {
         ensures { IfOk result (λ outcome. IsStep event steps (core_of self.old) (core_of self.new) outcome) }
     {
         match event {
-            MasterEvent::Packet(packet) => self.hear(alloc, packet, steps),
+            MasterEvent::Packet(packet) => {
+                let heard = self.hear(alloc, packet, steps)?;
+                Ok(Outcome::Heard(heard))
+            }
             MasterEvent::Admit(_) => unreachable!(),
             MasterEvent::Finish(app) => self.step_finish(alloc, app, steps),
             MasterEvent::Ban(machine) => self.step_ban(alloc, machine, steps),
@@ -80,13 +108,13 @@ impl Core {
     }
 
     // A packet, with the end of the step where it changed something.
-    fn hear(&mut self, alloc: Global, packet: Packet, steps: u64) -> Result<Outcome, OutOfMemory>
+    fn hear(&mut self, alloc: Global, packet: Packet, steps: u64) -> Result<Heard, OutOfMemory>
         requires core { IsCore (core_of self.old) }
         requires formed { IsFormed packet }
         requires no_end { packet.kind ≡ Kind.End → ⊥ }
         requires within { IsWithin steps (core_of self.old) }
         requires steps { steps ≤ most_steps }
-        ensures { IfOk result (IsStep (MasterEvent.Packet packet) steps (core_of self.old) (core_of self.new)) }
+        ensures { IfOk result (λ heard. IsHeard packet steps (core_of self.old) (core_of self.new) heard) }
     {
         written_roles::law::step_ends();
         core_side::law::strangers_change_nothing();
@@ -116,7 +144,7 @@ impl Core {
         alloc: Global,
         packet: Packet,
         steps: u64,
-    ) -> Result<Outcome, OutOfMemory>
+    ) -> Result<Heard, OutOfMemory>
         requires core { IsCore (core_of self.old) }
         requires formed { IsFormed packet }
         requires no_end { packet.kind ≡ Kind.End → ⊥ }
@@ -126,29 +154,21 @@ impl Core {
         requires zero { packet.to.number ≡ 0 }
         requires within { IsWithin steps (core_of self.old) }
         requires steps { steps ≤ most_steps }
-        ensures { IfOk result (IsStep (MasterEvent.Packet packet) steps (core_of self.old) (core_of self.new)) }
+        ensures { IfOk result (λ heard. IsHeard packet steps (core_of self.old) (core_of self.new) heard) }
     {
         written_roles::law::step_ends();
         let machine = MachineNo(packet.from.number);
-        let heard = match self.hear_agent(alloc, packet) {
-            Ok(heard) => heard,
-            Err(fault) => return Err(fault),
-        };
-        if !self.is_due(&heard, machine) {
-            return Ok(Outcome::Heard(heard));
+        let (heard, due) = self.hear_agent(alloc, packet)?;
+        if !due {
+            return Ok(heard);
         }
         let news = self.adopt_report(alloc, machine)?;
         self.finished(alloc, &news, steps)?;
-        Ok(Outcome::Heard(heard))
+        Ok(heard)
     }
 
     // A packet of the application of a known job.
-    fn heard_app(
-        &mut self,
-        alloc: Global,
-        packet: Packet,
-        steps: u64,
-    ) -> Result<Outcome, OutOfMemory>
+    fn heard_app(&mut self, alloc: Global, packet: Packet, steps: u64) -> Result<Heard, OutOfMemory>
         requires core { IsCore (core_of self.old) }
         requires formed { IsFormed packet }
         requires no_end { packet.kind ≡ Kind.End → ⊥ }
@@ -158,41 +178,37 @@ impl Core {
         requires zero { packet.to.number ≡ 0 }
         requires within { IsWithin steps (core_of self.old) }
         requires steps { steps ≤ most_steps }
-        ensures { IfOk result (IsStep (MasterEvent.Packet packet) steps (core_of self.old) (core_of self.new)) }
+        ensures { IfOk result (λ heard. IsHeard packet steps (core_of self.old) (core_of self.new) heard) }
     {
         written_roles::law::step_ends();
         let app = AppNo(packet.from.number);
-        let mut change = None;
-        let heard = match self.hear_app(alloc, packet, &mut change) {
-            Ok(heard) => heard,
-            Err(fault) => return Err(fault),
-        };
+        let (heard, change) = self.hear_app(alloc, packet)?;
         let taken = is_taken(&heard);
         if !heard.fresh && !taken {
-            return Ok(Outcome::Heard(heard));
+            return Ok(heard);
         }
         let news = self.take_demand(alloc, app, heard.fresh, taken, &change)?;
         self.finished(alloc, &news, steps)?;
-        Ok(Outcome::Heard(heard))
+        Ok(heard)
     }
 
     // A job is known from now on, with no demand. The core is moved and not lent: where memory is refused within the
     // admission its table and its placer are not level.
-    pub(crate) fn step_admit(
+    fn step_admit(
         self,
         alloc: Global,
         job: &Job,
         steps: u64,
-    ) -> Result<Core, OutOfMemory>
+    ) -> Result<(Core, Outcome), OutOfMemory>
         requires core { IsCore (core_of self) }
         requires unknown { is_known self.known.jobs job.now.number ≡ false }
         requires within { IsWithin steps (core_of self) }
         requires steps { steps ≤ most_steps }
-        ensures { IfOk result (λ after. IsStep (MasterEvent.Admit job.now) steps (core_of self) (core_of after) Done) }
+        ensures { IfOk result (λ after. IsStep (MasterEvent.Admit job.now) steps (core_of self) (core_of after.0) after.1) }
     {
         let (mut core, news) = self.admit(alloc, job)?;
         core.finished(alloc, &news, steps)?;
-        Ok(core)
+        Ok((core, Outcome::Done))
     }
 
     // A job has ended: its grants are gone.

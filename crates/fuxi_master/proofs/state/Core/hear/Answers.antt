@@ -1,10 +1,8 @@
 use Rattle.std.proofs.Common.{rules, inl, inr, ◌≡◌, ◌≤◌, length, false, ap, sym, ◌∙◌}
 use Rattle.fuxi_terms.specs.Jobs.{is_known}
-use Rattle.fuxi_terms.specs.declared.answers.What.TheVariants.{Stranger}
 use Rattle.written_roles.specs.MasterSteps.{talks}
 use Rattle.core_side.specs.Parcels.{id_of}
 use Rattle.fuxi_master.specs.Seen.{core_of}
-use Rattle.fuxi_master.proofs.AnswersAlike.{heard_one}
 use Rattle.fuxi_master.proofs.StepsLemmas.{wider, stranger_hears, agent_unknown, app_unknown}
 use Rattle.fuxi_master.proofs.state.Core.hear.Goals as goal
 
@@ -12,32 +10,32 @@ pub returns-then-not-is_for_master : goal.returns-then-not-is_for_master
 returns-then-not-is_for_master c =
     let x = core_of c.args.self.now in
     let off : c.is_for_master.result ≡ false = search rules in
-    heard_one c.args.packet c.args.steps x x (record { fresh = false; what = Stranger }) (record {
+    record {
       core = c.requires.core;
       within = wider c.args.steps x c.requires.within;
       hears = λ r h. stranger_hears c.step_ends.ensures c.strangers_change_nothing.ensures x c.requires.core c.args.packet (inl (sym c.is_for_master.ensures ∙ off)) r h;
-    })
+    }
 
 pub returns-then-packet-machines : goal.returns-then-packet-machines
 returns-then-packet-machines c =
     let x = core_of c.args.self.now in
     let a = c.args.packet.from.number in
     let ge : length x.allotment.table.cluster.machines ≤ a = search rules in
-    heard_one c.args.packet c.args.steps x x (record { fresh = false; what = Stranger }) (record {
+    record {
       core = c.requires.core;
       within = wider c.args.steps x c.requires.within;
       hears = λ r h. stranger_hears c.step_ends.ensures c.strangers_change_nothing.ensures x c.requires.core c.args.packet
           (inr (λ r h. ap (λ q. talks r.cluster r.state (id_of q a)) c.in-Agent.is ∙ agent_unknown x r h a ge)) r h;
-    })
+    }
 
 pub returns-then-is_none : goal.returns-then-is_none
 returns-then-is_none c =
     let x = core_of c.args.self.now in
     let a = c.args.packet.from.number in
     let unknown : is_known x.known.jobs a ≡ false = search rules in
-    heard_one c.args.packet c.args.steps x x (record { fresh = false; what = Stranger }) (record {
+    record {
       core = c.requires.core;
       within = wider c.args.steps x c.requires.within;
       hears = λ r h. stranger_hears c.step_ends.ensures c.strangers_change_nothing.ensures x c.requires.core c.args.packet
           (inr (λ r h. ap (λ q. talks r.cluster r.state (id_of q a)) c.in-App.is ∙ app_unknown x r h a unknown)) r h;
-    })
+    }
