@@ -11,7 +11,7 @@ use Rattle.fuxi_terms.proofs.Booleans.{both_true, and_true}
 use Rattle.fuxi_terms.specs.Tables.{Table}
 use Rattle.written_roles.specs.Masters.{level_of}
 use Rattle.written_roles.specs.Placing.{Board, accepts_in, has_room_in, is_allowed_in}
-use Rattle.place_pass.specs.Bounds.{zero_rank, rank_at, comes_before, is_bound, IsBounded, lowered}
+use Rattle.place_pass.specs.Bounds.{MarkRecord, zero_rank, rank_at, comes_before, is_bound, key_of, limited_mark, IsBounded, lowered}
 
 -- ---- ranks
 same_first : (x : ℕ) (r s b : List ℕ) → ((c : List ℕ) → not (comes_before r c) ≡ true → not (comes_before s c) ≡ true) → not (comes_before (x ∷ r) b) ≡ true → not (comes_before (x ∷ s) b) ≡ true
@@ -141,3 +141,23 @@ bounded_apart b b' es es' p m bound groups turn late u r level g h = record {
     only true y z f e = refl
     only false true z f e = cc
     only false false z f e = e
+
+-- ---- a mark that says nothing of pairs with a turn or a later one
+pub limited_less : (turns : ℕ) (k : MarkRecord) → (limited_mark turns k).until ≤ k.until
+limited_less turns k = elim (nat_lt turns k.until) as (λ t. nat_lt turns k.until ≡ t → cond t turns k.until ≤ k.until) [
+  | true ↦ λ t. let lt : turns < k.until = grind (arith, nat_tests, t) in omega (arith, lt)
+  | false ↦ λ _. omega arith
+] refl
+
+pub limited_few : (turns : ℕ) (k : MarkRecord) → (limited_mark turns k).until ≤ turns
+limited_few turns k = elim (nat_lt turns k.until) as (λ t. nat_lt turns k.until ≡ t → cond t turns k.until ≤ turns) [
+  | true ↦ λ _. omega arith
+  | false ↦ λ t. let le : k.until ≤ turns = grind (arith, nat_tests, t) in omega (arith, le)
+] refl
+
+-- it has the bound of all pairs that it had
+pub limited_key : (turns : ℕ) (k : MarkRecord) → key_of (limited_mark turns k) turns ≡ key_of k turns
+limited_key turns k = ap (λ t. cond t (Some zero_rank) k.bound) (elim (nat_lt turns k.until) as (λ t. nat_lt turns k.until ≡ t → nat_lt (cond t turns k.until) turns ≡ nat_lt k.until turns) [
+  | true ↦ λ t. let a : nat_lt turns turns ≡ false = grind (arith, nat_tests) in let b : nat_lt k.until turns ≡ false = grind (arith, nat_tests, t) in a ∙ sym b
+  | false ↦ λ _. refl
+] refl)

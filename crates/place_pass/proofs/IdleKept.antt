@@ -25,10 +25,10 @@ use Rattle.written_roles.specs.Placing.{Board, Ranked, ranked_in, places_in, can
 use Rattle.grant_table.specs.GrantTables.{TableRecord, as_known, with_admitted}
 use Rattle.place_pass.specs.Best.{AreAdmitted}
 use Rattle.place_pass.specs.Cells.{Cell, no_cell, cell_at, asks_at, asks_in, job_at, taken, taken_all, is_gone, any_gone, asks_more, any_more, Lifts, AvoidsStill, AreWishes}
-use Rattle.place_pass.specs.Bounds.{MarkRecord, mark_at, turn_at, key_of, limited_mark, zero_rank, IsBounded}
+use Rattle.place_pass.specs.Bounds.{MarkRecord, mark_at, turn_at, key_of, limited_mark, IsBounded}
 use Rattle.place_pass.specs.SearchCounts.{IsLifted}
 use Rattle.place_pass.specs.Placers.{AreLevel, AsksNoMore, IsIdle, IsClear, IsKept, IsQuiet, IsStill, KeptRecord, board_over, is_open_to}
-use Rattle.place_pass.proofs.BoundsLemmas.{NoEarlier, accepts_less, bounded_later}
+use Rattle.place_pass.proofs.BoundsLemmas.{NoEarlier, accepts_less, bounded_later, limited_few, limited_key, limited_less}
 use Rattle.place_pass.proofs.SightsLemmas.{place_of}
 use Rattle.place_pass.proofs.BoundsAfterChange.{levels_le}
 use Rattle.fuxi_terms.proofs.Lists.{all_at}
@@ -58,26 +58,6 @@ any_none p zero h = refl
 any_none p (suc n) h =
     list_any-append p (below n) (n ∷ []) ∙ ap (λ b. list_any p (below n) || b) (or_false (p n))
     ∙ or_none (list_any p (below n)) (p n) (any_none p n (λ i lt. h i (omega (arith, lt)))) (h n (omega arith))
-
--- ---- a mark that says nothing of pairs with a turn or a later one
-limited_less : (turns : ℕ) (k : MarkRecord) → (limited_mark turns k).until ≤ k.until
-limited_less turns k = elim (nat_lt turns k.until) as (λ t. nat_lt turns k.until ≡ t → cond t turns k.until ≤ k.until) [
-  | true ↦ λ t. let lt : turns < k.until = grind (arith, nat_tests, t) in omega (arith, lt)
-  | false ↦ λ _. omega arith
-] refl
-
-limited_few : (turns : ℕ) (k : MarkRecord) → (limited_mark turns k).until ≤ turns
-limited_few turns k = elim (nat_lt turns k.until) as (λ t. nat_lt turns k.until ≡ t → cond t turns k.until ≤ turns) [
-  | true ↦ λ _. omega arith
-  | false ↦ λ t. let le : k.until ≤ turns = grind (arith, nat_tests, t) in omega (arith, le)
-] refl
-
--- it has the bound of all pairs that it had
-limited_key : (turns : ℕ) (k : MarkRecord) → key_of (limited_mark turns k) turns ≡ key_of k turns
-limited_key turns k = ap (λ t. cond t (Some zero_rank) k.bound) (elim (nat_lt turns k.until) as (λ t. nat_lt turns k.until ≡ t → nat_lt (cond t turns k.until) turns ≡ nat_lt k.until turns) [
-  | true ↦ λ t. let a : nat_lt turns turns ≡ false = grind (arith, nat_tests) in let b : nat_lt k.until turns ≡ false = grind (arith, nat_tests, t) in a ∙ sym b
-  | false ↦ λ _. refl
-] refl)
 
 -- ---- where nothing is placeable the search finds none
 record Never (r : Ranked) : Type 0 where

@@ -198,6 +198,7 @@ impl Mark {
 pub(crate) struct Marks {
     marks: Vec<Mark>,
     /// None is greater than that of the machine's bound of all pairs with a turn below `until`.
+    /// The greatest of all is that of a machine that is settled whatever begins to wait.
     keys: Vec<u128>,
     until: u64,
     /// Whether a mark may note a group.
@@ -337,7 +338,7 @@ impl Marks {
         self.keys[machine as usize] = key;
     }
 
-    /// Pairs with a turn below this one wait, which are not looked at yet.
+    /// Pairs with a turn below this one may wait that were not looked at.
     pub(crate) fn renew(&mut self, turns: u64)
         ensures { self.new ≡ self.old }
     {
