@@ -4,8 +4,7 @@ use Rattle.std.specs.Prelude.{◌&&◌, T}
 use Rattle.std.specs.Option.{unwrap_or}
 use Rattle.std.specs.Ordering.{eq_by_cmp, is_eq, is_lt}
 use Rattle.std.specs.List.Sorted.{IsPartitionPoint, IsPartitionedBy}
-use Rattle.std.specs.declared.cmp.Ordering.{Ordering}
-use Rattle.std.specs.declared.cmp.Ordering.TheVariants.{Less, Equal, Greater}
+use Rattle.std.specs.declared.cmp.Ordering.TheVariants.{Less}
 use Rattle.std.specs.FinMap.Entries.{below_all, find, is_sorted}
 use Rattle.std.proofs.lemmas.Bool.Decides.{nat_tests}
 use Rattle.std.proofs.lemmas.List.{drop_all}
@@ -54,11 +53,6 @@ parted k (e ∷ es) s zero (suc j) d le lt h =
 parted k (e ∷ es) s (suc i) zero d le lt h = absurd (omega (arith, le))
 parted k (e ∷ es) s (suc i) (suc j) d le lt h = parted k es (both_true (below_all key_cmp e.0 es) _ s).1 i j d (omega (arith, le)) (omega (arith, lt)) h
 
-is_less : (o : Ordering) → is_lt o ≡ true → o ≡ Less
-is_less Less e = refl
-is_less Equal e = cc
-is_less Greater e = cc
-
 -- a key that is not below it stands from there on
 past : (k q : Key) (n : ℕ) (es : List (Key × ℕ)) → ((i : ℕ) (d : Key × ℕ) → 0 ≤ i → i < n → is_lt (key_cmp (get_or es i d).0 k) ≡ true) → is_below q k ≡ false → count key_cmp es q ≡ count key_cmp (drop n es) q
 past k q zero es before above = refl
@@ -92,7 +86,7 @@ module _ (es : List (Key × ℕ)) (u from n end : ℕ) (inside : from ≤ end) (
     before_next m le less =
         let q = count_key u m in
         let s = subst (λ l. T (is_sorted key_cmp l)) (drop-cons es n d lt) (sorted_rest n es sorted) in
-        let below = is_less (key_cmp q (get_or es n d).0) (less_is q (get_or es n d).0 ∙ less) in
+        let below = lesser (key_cmp q (get_or es n d).0) (subst T (sym (less_is q (get_or es n d).0 ∙ less)) tt) in
         left m le
         ∙ ap (λ r. unwrap_or (cond (is_eq r) (Some (get_or es n d).1) (find key_cmp q (drop (suc n) es))) 0) below
         ∙ ap (λ o. unwrap_or o 0) (find_below_head key_total q (get_or es n d) (drop (suc n) es) below (both_true (below_all key_cmp (get_or es n d).0 (drop (suc n) es)) _ s).0)

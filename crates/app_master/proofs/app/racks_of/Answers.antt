@@ -1,4 +1,4 @@
-use Rattle.std.proofs.Common.{ℕ, true, false, nat_eq, length-set, replicate, refl, ◌∙◌, ap, arith, inl, inr}
+use Rattle.std.proofs.Common.{true, false, nat_eq, length-set, replicate, refl, ◌∙◌, ap, arith, inl, inr}
 use Rattle.std.specs.List.{list_any}
 use Rattle.std.proofs.Math.ListN.{get_or-eq_default}
 use Rattle.std.proofs.lemmas.Bool.{cases_lt}

@@ -1,4 +1,4 @@
-use Rattle.std.proofs.Common.{inl, inr, ◌≡◌, ◌+◌, ◌<◌, Option, List, [], ℕ, length, IfSome, Ok, Err, sym, ◌∙◌, ap, subst, arith, refl}
+use Rattle.std.proofs.Common.{inl, inr, ◌≡◌, ◌+◌, ◌<◌, List, [], ℕ, length, IfSome, Ok, Err, sym, ◌∙◌, ap, subst, arith, refl}
 use Rattle.std.proofs.lemmas.Bool.{false≢true}
 use Rattle.fuxi_io.specs.Reading.{line_of, rest_of}
 use Rattle.fuxi_io.specs.WriteBuffers.{with_waiting}
