@@ -13,20 +13,14 @@ ghost use Rattle.agent_core.specs.AgentSeen.{IsWhole, core_of};
 ghost use Rattle.agent_core.specs.Answering.{AnswersAlike, SendsAlike, ResyncsAlike, Steps};
 
 use crate::limit::RowLimit;
-use core_side::{Limit, Side, law};
+use core_side::{Limit, Reply, Side, law};
 use delta_channel::Place;
 use ledger_law::{Ledger, OutOfMemory};
-use party_ledgers::{Heard, JoinLedger, Kind, Packet, Packets, RowLedger, What};
+use party_ledgers::{Heard, JoinLedger, Kind, Packet, Packets, RowLedger};
 use res_vector::{Res, Sum};
 use schedule_unit::{MachineNo, Role};
 use std::alloc::Global;
 use std::marker::Model;
-
-// As what the packet of a stranger is heard.
-const STRANGER: Heard = Heard {
-    fresh: false,
-    what: What::Stranger,
-};
 
 /// The agent of one machine, in one boot. Its table fits the machine, whatever packets come.
 ///
@@ -98,10 +92,24 @@ impl Agent {
         ensures hears { IfOk result (λ after. AnswersAlike packet.now self after.0 after.1) }
         ensures steps { IfOk result (λ after. Steps self after.0) }
     {
+        match self.hear(alloc, packet) {
+            Ok((agent, reply)) => Ok((agent, reply.heard())),
+            Err(fault) => Err(fault),
+        }
+    }
+
+    /// Hears a packet as [`Agent::on_packet`] does, with a word in few bytes.
+    pub fn hear(self, alloc: Global, packet: &Packet) -> Result<(Agent, Reply), OutOfMemory>
+        requires formed { IsFormed packet.now }
+        requires no_end { packet.now.kind ≡ Kind.End → ⊥ }
+        requires steps { self.steps < most_steps }
+        ensures hears { IfOk result (λ after. AnswersAlike packet.now self after.0 after.1) }
+        ensures steps { IfOk result (λ after. Steps self after.0) }
+    {
         let Agent { core } = self;
         let mut core = core;
         match core.hear(alloc, packet) {
-            Ok(heard) => Ok((Agent { core }, heard)),
+            Ok(reply) => Ok((Agent { core }, reply)),
             Err(fault) => Err(fault),
         }
     }
@@ -172,7 +180,7 @@ impl Agent {
 
 impl Core {
     // Hears a packet. Where memory is refused nothing is said of what is left.
-    fn hear(&mut self, alloc: Global, packet: &Packet) -> Result<Heard, OutOfMemory>
+    fn hear(&mut self, alloc: Global, packet: &Packet) -> Result<Reply, OutOfMemory>
         requires formed { IsFormed packet.now }
         requires no_end { packet.now.kind ≡ Kind.End → ⊥ }
         requires steps { self.old.steps < most_steps }
@@ -184,7 +192,7 @@ impl Core {
         self.steps += 1;
         if !is_for(packet, self.machine) {
             law::strangers_change_nothing();
-            return Ok(STRANGER);
+            return Ok(Reply::stranger());
         }
         if packet.from.inc <= self.up.peer() {
             return self.up.hear(alloc, packet, &self.limit, &mut self.total);

@@ -23,22 +23,16 @@ use crate::carried::Carried;
 use crate::fault::AppFault;
 use crate::tallies::{given, is_named, next_counted, usable};
 use cluster_desc::Cluster;
-use core_side::{NoLimit, Side, law};
+use core_side::{NoLimit, Reply, Side, law};
 use delta_channel::Place;
 use fuxi_terms::OutOfMemory;
 use fuxi_terms::limits::{GREATEST_BACK, GREATEST_COUNT, MOST_RACKS};
 use fuxi_terms::tally_keys::{AVOID, BACK, NEAR, RACK, WANT};
 use ledger_law::Key;
-use party_ledgers::{Demand, Grants, Heard, Packet, Packets, What};
+use party_ledgers::{Demand, Grants, Heard, Packet, Packets};
 use schedule_unit::{AppNo, MachineNo, RackNo, Role, UnitNo};
 use std::alloc::Global;
 use std::marker::Model;
-
-// As what the packet of a stranger is heard.
-const STRANGER: Heard = Heard {
-    fresh: false,
-    what: What::Stranger,
-};
 
 /// An application. It asks for grants, holds what its master grants, and gives back.
 ///
@@ -235,10 +229,24 @@ impl AppMaster {
         ensures hears { IfOk result (HearsAlike self packet.now) }
         ensures steps { IfOk result (λ after. after.0.steps ≡ self.steps + 1) }
     {
+        match self.hear(alloc, packet) {
+            Ok((app, reply)) => Ok((app, reply.heard())),
+            Err(fault) => Err(fault),
+        }
+    }
+
+    /// Hears a packet as [`AppMaster::on_packet`] does, with a word in few bytes.
+    pub fn hear(self, alloc: Global, packet: &Packet) -> Result<(AppMaster, Reply), OutOfMemory>
+        requires formed { IsFormed packet.now }
+        requires no_end { packet.now.kind ≡ End → ⊥ }
+        requires steps { self.steps < most_steps }
+        ensures hears { IfOk result (HearsAlike self packet.now) }
+        ensures steps { IfOk result (λ after. after.0.steps ≡ self.steps + 1) }
+    {
         let AppMaster { core } = self;
         let mut core = core;
         match core.hear(alloc, packet) {
-            Ok(heard) => Ok((AppMaster { core }, heard)),
+            Ok(reply) => Ok((AppMaster { core }, reply)),
             Err(fault) => Err(fault),
         }
     }
@@ -452,7 +460,7 @@ impl AppMaster {
 
 impl Core {
     // Hears a packet. Where memory is refused nothing is said of what is left.
-    fn hear(&mut self, alloc: Global, packet: &Packet) -> Result<Heard, OutOfMemory>
+    fn hear(&mut self, alloc: Global, packet: &Packet) -> Result<Reply, OutOfMemory>
         requires formed { IsFormed packet.now }
         requires no_end { packet.now.kind ≡ End → ⊥ }
         requires steps { self.old.steps < most_steps }
@@ -464,7 +472,7 @@ impl Core {
         law::strangers_change_nothing();
         self.steps += 1;
         if !is_for(packet, self.app) {
-            return Ok(STRANGER);
+            return Ok(Reply::stranger());
         }
         if packet.from.inc <= self.up.peer() {
             return self.up.hear(alloc, packet, &NoLimit, &mut ());

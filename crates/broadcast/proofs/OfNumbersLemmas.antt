@@ -73,12 +73,13 @@ sorted_of {X} n (x ∷ xs) ys p h = ap (map (λ e. e.1)) (sym (tied ys) ∙ h (n
     tied : (zs : List (ℕ × X)) → filter (ties (λ d e. is_lt (nat_cmp d.0 e.0)) (n, x.1)) zs ≡ filter (λ e. nat_eq e.0 n) zs
     tied zs = filter_agree _ _ (λ e. grind (arith, nat_tests)) zs
 
-pub has_more : (ns : List ℕ) (n : ℕ) → ((a : ℕ) → a < n → has_number a ns ≡ true) → (a : ℕ) → a < n + 1 → has_number a (ns ++ n ∷ []) ≡ true
-has_more ns n h a lt = list_any-append (nat_eq a) ns (n ∷ []) ∙ by (nat_eq a n) refl
+-- one more number, and what was there before
+pub has_more : (ns : List ℕ) (n a : ℕ) → (a < n → has_number a ns ≡ true) → a < n + 1 → has_number a (ns ++ n ∷ []) ≡ true
+has_more ns n a h lt = list_any-append (nat_eq a) ns (n ∷ []) ∙ by (nat_eq a n) refl
   where
     by : (b : Bool) → nat_eq a n ≡ b → (has_number a ns || (b || false)) ≡ true
     by true is = or_right (has_number a ns) true refl
-    by false is = or_left (has_number a ns) false (h a (grind (arith, nat_tests, is, lt)))
+    by false is = or_left (has_number a ns) false (h (grind (arith, nat_tests, is, lt)))
 
 -- ---- numbers that rise, and one more that is above them
 pub none_below : (n : ℕ) (ns : List ℕ) → ns ≡ [] → IsStrictlySortedBy nat_cmp ns × AllByRecursion (λ m. m < n) ns

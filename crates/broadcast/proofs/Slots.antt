@@ -149,7 +149,7 @@ module _ (t : TableRecord) (sound : IsSound t) (ss : List Spot) (news : News) (n
 
 -- all are shown: those that were not looked at have what they are to have
 pub all_shown : (t : TableRecord) (ss : List Spot) (news : News) (due : List ℕ) (old new : List (Option App)) → IsSound t → AreReached (IsSlotShown (counts_at t ss) news) due old new
-    → ((a : ℕ) → a < length old → has_number a due ≡ false → (count_entries a (counts_at t ss) ≡ []) × IsNotOf news a) → (now : List ℕ) → GrantsAreBefore t ss news now old → ShowsAllGrants t news now old new
+    → ((a : ℕ) (d : App) → slice_get old a ≡ Some (Some d) → has_number a due ≡ false → (count_entries a (counts_at t ss) ≡ []) × IsNotOf news a) → (now : List ℕ) → GrantsAreBefore t ss news now old → ShowsAllGrants t news now old new
 all_shown t ss news due old new sound h rest now g = record {
   wide = h.wide;
   none = λ a e. elim (has_number a due) as (λ b. has_number a due ≡ b → slice_get new a ≡ Some None) [
@@ -161,7 +161,7 @@ all_shown t ss news due old new sound h rest now g = record {
         let s = (h.each a (Some d) (get_or new a None) is e (there a (Some d) e)).some d refl in
         record { new = s.new; there = there a (Some d) e ∙ ap (λ o. Some o) s.there; shows = s.shows t now (job_is_before t sound ss news now old g a d e) }
     | false ↦ λ is.
-        let q = rest a (slice_get_within old a (Some d) e) is in
+        let q = rest a d e is in
         record { new = d; there = h.rest a is ∙ e; shows = quiet t sound ss news now old g a d e q.0 q.1 }
   ] refl;
 }

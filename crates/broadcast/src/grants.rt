@@ -1,6 +1,6 @@
 //! Grants, by job.
 
-ghost use Rattle.std.specs.Prelude.{◌≡◌, ◌<◌, ◌^◌, ◌||◌, ◌++◌, true, false, nat_eq, ℕ, T, List, Some, None, map, IfOk, OnOk};
+ghost use Rattle.std.specs.Prelude.{◌≡◌, ◌<◌, ◌^◌, ◌||◌, ◌++◌, true, false, nat_eq, ℕ, T, List, Some, None, map, slice_get, IfOk, OnOk};
 ghost use Rattle.std.specs.Ordering.{nat_cmp};
 ghost use Rattle.std.specs.List.Sorted.{IsNonDecreasingBy, IsStrictlySortedBy};
 ghost use Rattle.std.specs.FinMap.Entries.{is_sorted};
@@ -59,7 +59,8 @@ impl Drop for News {
 
 /// Shows each application, by the number of its job, its grants: one change of them, where they are others or the job was admitted. The head is the
 /// boot that is known of it; a new boot loses what was credited. The spots are those at which grants changed since, in order; each last
-/// index is below 2^62. It costs the spots and a search for each job that they or the news name; where a machine is reported, for each job.
+/// index is below 2^62. It costs the spots and a search for each job that they or the news name; where a machine is reported, a look at each
+/// slot and a search for each application.
 ///
 /// Want of memory leaves some of the applications shown.
 pub fn show_all_grants(
@@ -79,7 +80,7 @@ pub fn show_all_grants(
 {
     let _cluster = table.cluster();
     let counts = counts_at(alloc, table, spots)?;
-    let jobs = jobs_due(alloc, &counts, news, apps.len())?;
+    let jobs = jobs_due(alloc, &counts, news, apps)?;
     let mut numbers = Vec::new(alloc);
     for job in &jobs {
         let app = *job;
@@ -91,18 +92,18 @@ pub fn show_all_grants(
     Ok(())
 }
 
-// The jobs with counts, and those of the news: of no others can the grants have changed. All of them where a machine is reported.
+// The jobs with counts and those of the news: no other grants can have changed. Where a machine is reported, all with an application.
 fn jobs_due(
     alloc: Global,
     counts: &[(usize, (Key, u64))],
     news: &News,
-    jobs: usize,
+    apps: &[Option<Side<Grants, Demand>>],
 ) -> Result<Vec<usize>, AllocError>
     ensures rising { IfOk result (λ due. IsStrictlySortedBy nat_cmp due.items) }
-    ensures all { IfOk result (λ due. (a : ℕ) → a < jobs → has_number a due.items ≡ false → (has_number a (map (λ e. e.0) counts.now) ≡ false) × IsNotOf news.now a) }
+    ensures all { IfOk result (λ due. (a : ℕ) (d : App) → slice_get apps.now a ≡ Some (Some d) → has_number a due.items ≡ false → (has_number a (map (λ e. e.0) counts.now) ≡ false) × IsNotOf news.now a) }
 {
     if news.reported.is_some() {
-        return all_jobs(alloc, jobs);
+        return all_jobs(alloc, apps);
     }
     let named = jobs_named(alloc, news)?;
     each_once(alloc, counts, &named)
@@ -119,13 +120,16 @@ fn jobs_named(alloc: Global, news: &News) -> Result<Vec<usize>, AllocError>
     Ok(named)
 }
 
-// The numbers of all jobs, from the first on.
-fn all_jobs(alloc: Global, jobs: usize) -> Result<Vec<usize>, AllocError>
+// All jobs with an application, from the first on: most slots have none, and are not looked at again.
+fn all_jobs(alloc: Global, apps: &[Option<Side<Grants, Demand>>]) -> Result<Vec<usize>, AllocError>
     ensures rising { IfOk result (λ all. IsStrictlySortedBy nat_cmp all.items) }
-    ensures all { IfOk result (λ all. (a : ℕ) → a < jobs → has_number a all.items ≡ true) }
+    ensures all { IfOk result (λ all. (a : ℕ) (d : App) → slice_get apps.now a ≡ Some (Some d) → has_number a all.items ≡ true) }
 {
-    let mut all = Vec::with_capacity(alloc, jobs)?;
-    for job in 0..jobs {
+    let mut all = Vec::with_capacity(alloc, apps.len())?;
+    for (job, slot) in apps.iter().enumerate() {
+        if slot.is_none() {
+            continue;
+        }
         all.push(job)?;
     }
     Ok(all)

@@ -327,6 +327,5 @@ module _ {V D W : Type 0} (first : V) (patched : V → D → Result V LedgerFaul
 
         pub not_taken : {M : Type 0} (measures : M → W → Type 0) (why : Refusal) (r : Result What OutOfMemory) → WeighsChange {M = M} measures (λ w. excess (inward w)) outcome (Err why) → TellsWhy why r → IfOk r (SaysAlike old)
         not_taken measures (RefusesLedger fault) r weighs tells = not_made fault r (is_refusal fault weighs) tells
-        not_taken measures (RefusesMuch total has) r weighs tells =
-            let much = too_much_alike weighs.ledger total has words (makes ∙ ap (λ o. then_do o (λ w. Ok (inward w))) weighs.made) weighs.much in
-            subst (λ r. IfOk r (SaysAlike old)) (sym tells) much
+        not_taken measures (RefusesMuch total has) (Ok word) weighs tells = subst (SaysAlike old) (sym tells) (too_much_alike weighs.ledger total has words (makes ∙ ap (λ o. then_do o (λ w. Ok (inward w))) weighs.made) weighs.much)
+        not_taken measures (RefusesMuch total has) (Err e) weighs tells = tt

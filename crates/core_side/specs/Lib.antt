@@ -4,3 +4,4 @@ pub mod Testing
 pub mod Sending
 pub mod Bodies
 pub mod Telling
+pub mod Replies

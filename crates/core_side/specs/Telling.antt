@@ -17,4 +17,5 @@ Tells fault (Err e) = Unit {0}
 
 abbrev pub TellsWhy : Refusal → Result What OutOfMemory → Type 0
 TellsWhy (Refuses fault) r = Tells fault r
-TellsWhy (Exceeds total has) r = r ≡ Ok (SaysExceeds total has)
+TellsWhy (Exceeds total has) (Ok word) = word ≡ SaysExceeds total has
+TellsWhy (Exceeds total has) (Err e) = Unit {0}

@@ -5,8 +5,10 @@
 mod carried;
 pub mod law;
 mod limit;
+mod reply;
 mod side;
 
 pub use carried::Carried;
 pub use limit::{Excess, Limit, NoLimit, Refusal};
+pub use reply::Reply;
 pub use side::Side;

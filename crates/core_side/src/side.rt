@@ -6,6 +6,7 @@ ghost use Rattle.written_net.specs.Sides.{Side as WrittenSide, new_side};
 ghost use Rattle.core_side.specs.CoreSides.{IsSide, SaysWord, HearsAlike, PostsAlike, IsShown};
 ghost use Rattle.core_side.specs.Sending.{TurnsAlike, packet_for};
 ghost use Rattle.core_side.specs.Telling.{TellsWhy};
+ghost use Rattle.fuxi_terms.specs.declared.answers.What.TheVariants.{Exceeds as SaysExceeds};
 ghost use Rattle.core_side.specs.Testing.{Takes};
 ghost use Rattle.delta_channel.specs.Calls.{Meets};
 ghost use Rattle.channel_join.specs.Alike.{told_as, stamp_of};
@@ -14,11 +15,13 @@ ghost use Rattle.delta_channel.specs.Hearing.{verdict_of};
 
 use crate::carried::Carried;
 use crate::limit::{Limit, Refusal};
+use crate::reply::{Reply, Word};
 use channel_join::law;
 use delta_channel::{Place, Stamp, Verdict};
 use full_sync::{Duplex, Note};
+use fuxi_terms::{Res, Sum, What};
 use ledger_law::{LedgerFault, OutOfMemory};
-use party_ledgers::{Body, Heard, Kind, Packet, Packets, What};
+use party_ledgers::{Body, Kind, Packet, Packets};
 use schedule_unit::Party;
 use std::alloc::Global;
 use std::marker::Model;
@@ -67,7 +70,7 @@ impl<A: Carried, B: Carried> Side<A, B> {
         packet: &Packet,
         limit: &L,
         measure: &mut L::Measure,
-    ) -> Result<Heard, OutOfMemory>
+    ) -> Result<Reply, OutOfMemory>
         requires formed { IsFormed packet.now }
         requires no_end { packet.now.kind ≡ Kind.End → ⊥ }
         requires from { packet.now.from.role ≡ B.from_role }
@@ -80,19 +83,13 @@ impl<A: Carried, B: Carried> Side<A, B> {
         ensures outgoing { self.new.outgoing ≡ self.old.outgoing }
     {
         if packet.from.inc < self.ends.peer() {
-            return Ok(Heard {
-                fresh: false,
-                what: What::Stale,
-            });
+            return Ok(Reply::stale());
         }
         let fresh = self.meet(alloc, packet.from.inc, limit, measure);
         if packet.kind == Kind::Ack {
             law::links_are_one();
             self.ends.on_ack(packet.from.inc, packet.place);
-            return Ok(Heard {
-                fresh,
-                what: What::Ack,
-            });
+            return Ok(Reply::ack(fresh));
         }
         let stamp = stamp_of(packet);
         let verdict = self.judge(packet, &stamp);
@@ -102,12 +99,12 @@ impl<A: Carried, B: Carried> Side<A, B> {
         match packet.kind {
             Kind::Full => {
                 let ledger = B::whole_in(&packet.body).copy(alloc)?;
-                let what = self.take_whole(&stamp, ledger, limit, measure);
-                Ok(Heard { fresh, what })
+                let what = self.take_whole(alloc, &stamp, ledger, limit, measure)?;
+                Ok(Reply::make(fresh, what))
             }
             Kind::Delta => {
                 let what = self.take_change(alloc, packet, &stamp, limit, measure)?;
-                Ok(Heard { fresh, what })
+                Ok(Reply::make(fresh, what))
             }
             Kind::Ack | Kind::End => unreachable!(),
         }
@@ -121,7 +118,7 @@ impl<A: Carried, B: Carried> Side<A, B> {
         packet: Packet,
         limit: &L,
         measure: &mut L::Measure,
-    ) -> Result<Heard, OutOfMemory>
+    ) -> Result<Reply, OutOfMemory>
         requires formed { IsFormed packet }
         requires no_end { packet.kind ≡ Kind.End → ⊥ }
         requires from { packet.from.role ≡ B.from_role }
@@ -142,8 +139,9 @@ impl<A: Carried, B: Carried> Side<A, B> {
         if verdict != Verdict::Take {
             return Ok(left(fresh, verdict));
         }
-        let what = self.take_whole(&stamp, B::whole_of(packet.body), limit, measure);
-        Ok(Heard { fresh, what })
+        let ledger = B::whole_of(packet.body);
+        let what = self.take_whole(alloc, &stamp, ledger, limit, measure)?;
+        Ok(Reply::make(fresh, what))
     }
 
     // Hears of an incarnation of the peer. Where it is new, nothing is received of it, and that is measured.
@@ -183,31 +181,27 @@ impl<A: Carried, B: Carried> Side<A, B> {
     // Takes a whole ledger of which the verdict is to take it, where it is not too much.
     fn take_whole<L: Limit<B>>(
         &mut self,
+        alloc: Global,
         stamp: &Stamp,
         ledger: B,
         limit: &L,
         measure: &mut L::Measure,
-    ) -> What
+    ) -> Result<Word, OutOfMemory>
         requires take { verdict_of self.old.incoming.own self.old.incoming.place stamp.now ≡ Verdict.Take }
         requires known { stamp.now.place.inc ≡ self.old.incoming.place.inc }
         requires named { 0 < stamp.now.place.inc }
         requires measured { L.measures limit.now measure.old self.old.incoming.received }
-        ensures takes { Takes (L.excess limit.now (B.stated ledger)) stamp.now.place ledger self.old self.new result }
+        ensures takes { IfOk result (Takes (L.excess limit.now (B.stated ledger)) stamp.now.place ledger self.old self.new) }
         ensures peer { self.new.incoming.place.inc ≡ self.old.incoming.place.inc }
         ensures outgoing { self.new.outgoing ≡ self.old.outgoing }
         ensures measured { L.measures limit.now measure.new self.new.incoming.received }
     {
         match limit.whole(&ledger) {
             Ok(next) => *measure = next,
-            Err(excess) => {
-                return What::Exceeds {
-                    total: excess.total,
-                    has: excess.has,
-                };
-            }
+            Err(excess) => return exceeds(alloc, excess.total, excess.has),
         }
         self.ends.take_full(stamp, ledger);
-        What::Taken
+        Ok(Word::taken())
     }
 
     // Takes the change of a packet of the known incarnation of which the verdict is to take it, where what it makes is not too much.
@@ -218,7 +212,7 @@ impl<A: Carried, B: Carried> Side<A, B> {
         stamp: &Stamp,
         limit: &L,
         measure: &mut L::Measure,
-    ) -> Result<What, OutOfMemory>
+    ) -> Result<Word, OutOfMemory>
         requires formed { IsFormed packet.now }
         requires kind { packet.now.kind ≡ Kind.Delta }
         requires from { packet.now.from.role ≡ B.from_role }
@@ -235,14 +229,14 @@ impl<A: Carried, B: Carried> Side<A, B> {
         let change = B::change_in(&packet.body);
         let next = match limit.change(measure, self.ends.got(), change) {
             Ok(next) => next,
-            Err(refusal) => return word_of(refusal),
+            Err(refusal) => return word_of(alloc, refusal),
         };
         match self.ends.take_delta(alloc, stamp, change) {
             Ok(()) => {}
-            Err(fault) => return word_of(Refusal::Ledger(fault)),
+            Err(fault) => return word_of(alloc, Refusal::Ledger(fault)),
         }
         *measure = next;
-        Ok(What::Taken)
+        Ok(Word::taken())
     }
 
     /// Makes a change to the ledger that is sent, where the last index is below 2^62. The change leads to a ledger, and has
@@ -370,37 +364,28 @@ fn stamp_of(packet: &Packet) -> Stamp
 }
 
 // As what a packet is heard that is not taken.
-fn left(fresh: bool, verdict: Verdict) -> Heard
+fn left(fresh: bool, verdict: Verdict) -> Reply
     ensures { result ≡ record { fresh = fresh; what = told_as verdict } }
 {
-    Heard {
-        fresh,
-        what: told_as(verdict),
-    }
-}
-
-// How a verdict is told.
-fn told_as(verdict: Verdict) -> What
-    ensures { result ≡ told_as verdict }
-{
-    match verdict {
-        Verdict::Take => What::Taken,
-        Verdict::Old => What::Old,
-        Verdict::Gap => What::Gap,
-        Verdict::NotMine => What::NotMine,
-        Verdict::Stale => What::Stale,
-    }
+    Reply::make(fresh, Word::told_as(verdict))
 }
 
 // How a refusal is told. Want of memory is none.
-fn word_of(refusal: Refusal) -> Result<What, OutOfMemory>
+fn word_of(alloc: Global, refusal: Refusal) -> Result<Word, OutOfMemory>
     ensures { TellsWhy refusal result }
 {
     match refusal {
         Refusal::Ledger(LedgerFault::OutOfMemory) => Err(OutOfMemory),
-        Refusal::Ledger(fault) => Ok(What::Ledger(fault)),
-        Refusal::Exceeds { total, has } => Ok(What::Exceeds { total, has }),
+        Refusal::Ledger(fault) => Word::long(alloc, What::Ledger(fault)),
+        Refusal::Exceeds { total, has } => exceeds(alloc, total, has),
     }
+}
+
+// A ledger takes more than there is.
+fn exceeds(alloc: Global, total: Sum, has: Res) -> Result<Word, OutOfMemory>
+    ensures { IfOk result (λ word. word ≡ SaysExceeds total has) }
+{
+    Word::long(alloc, What::Exceeds { total, has })
 }
 
 // Appends the packets of these notes.

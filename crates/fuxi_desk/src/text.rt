@@ -67,7 +67,7 @@ fn push_heads(alloc: Global, heads: &Heads, out: &mut Vec<u8>) -> Result<(), Out
 fn push_heard(alloc: Global, call: u32, heard: &Heard, out: &mut Vec<u8>) -> Result<(), OutOfMemory>
     ensures { OnOk result (out.new.items ≡ out.old.items ++ (blanked (decimal call ∷ words_in (Words.Took heard.now)) ++ 10 ∷ [])) }
 {
-    let line = Output::Heard(u64::from(call), heard.fresh, heard.what);
+    let line = Output::Heard(u64::from(call), heard.fresh, &heard.what);
     let mut text = Vec::new(alloc);
     write_output(&line, &mut text)?;
     let (_, behind) = text.as_slice().split_at(5);

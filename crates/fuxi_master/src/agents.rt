@@ -10,11 +10,11 @@ ghost use Rattle.fuxi_master.specs.Seen.{core_of};
 
 use crate::state::{Core, news};
 use broadcast::News;
-use core_side::{Excess, Limit, Refusal, Side};
+use core_side::{Excess, Limit, Refusal, Reply, Side};
 use failover::{AdoptFault, adopt, kept_total};
 use fuxi_terms::OutOfMemory;
 use hard_state::Known;
-use party_ledgers::{Heard, JoinLedger, Kind, Packet, RowLedger, What};
+use party_ledgers::{JoinLedger, Kind, Packet, RowLedger};
 use res_vector::{Res, sum_fits};
 use schedule_unit::MachineNo;
 use std::alloc::Global;
@@ -71,10 +71,10 @@ impl<'a> Limit<JoinLedger> for ReportLimit<'a> {
 }
 
 // Whether a report was taken that is adopted now.
-fn is_due(heard: &Heard, side: &Side<RowLedger, JoinLedger>, epoch: u64, reported: bool) -> bool
+fn is_due(heard: &Reply, side: &Side<RowLedger, JoinLedger>, epoch: u64, reported: bool) -> bool
     ensures { result ≡ (is_taken heard.now.what && (nat_eq side.now.incoming.received.epoch epoch && not reported)) }
 {
-    matches!(heard.what, What::Taken) && side.got().epoch() == epoch && !reported
+    heard.is_taken() && side.got().epoch() == epoch && !reported
 }
 
 impl Core {
@@ -83,7 +83,7 @@ impl Core {
         &mut self,
         alloc: Global,
         packet: Packet,
-    ) -> Result<(Heard, bool), OutOfMemory>
+    ) -> Result<(Reply, bool), OutOfMemory>
         requires core { IsCore (core_of self.old) }
         requires formed { IsFormed packet }
         requires no_end { packet.kind ≡ Kind.End → ⊥ }

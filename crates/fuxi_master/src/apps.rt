@@ -22,11 +22,11 @@ ghost use Rattle.fuxi_master.specs.Seen.{core_of};
 use crate::state::Core;
 use allotment::Allotment;
 use broadcast::News;
-use core_side::{NoLimit, Side};
+use core_side::{NoLimit, Reply, Side};
 use fuxi_terms::{Key, OutOfMemory};
 use hard_state::Known;
 use ledger_law::{Change, Ledger};
-use party_ledgers::{Body, Demand, Grants, Heard, Kind, Packet};
+use party_ledgers::{Body, Demand, Grants, Kind, Packet};
 use schedule_unit::AppNo;
 use std::alloc::Global;
 
@@ -36,7 +36,7 @@ impl Core {
         &mut self,
         alloc: Global,
         packet: Packet,
-    ) -> Result<(Heard, Option<Change>), OutOfMemory>
+    ) -> Result<(Reply, Option<Change>), OutOfMemory>
         requires core { IsCore (core_of self.old) }
         requires formed { IsFormed packet }
         requires no_end { packet.kind ≡ Kind.End → ⊥ }
@@ -96,7 +96,7 @@ fn hear(
     side: &mut Side<Grants, Demand>,
     packet: Packet,
     counted: bool,
-) -> Result<(Heard, Option<Change>), OutOfMemory>
+) -> Result<(Reply, Option<Change>), OutOfMemory>
     requires formed { IsFormed packet }
     requires no_end { packet.kind ≡ Kind.End → ⊥ }
     requires from { packet.from.role ≡ AsApp }

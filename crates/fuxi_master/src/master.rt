@@ -9,7 +9,8 @@ ghost use Rattle.fuxi_terms.specs.Jobs.{is_known, unit_count};
 ghost use Rattle.fuxi_terms.specs.Limits.{most_steps};
 ghost use Rattle.fuxi_terms.specs.Tables.{total_at};
 ghost use Rattle.fuxi_terms.specs.TallyKeys.{want_key};
-ghost use Rattle.core_side.specs.Parcels.{id_of};
+ghost use Rattle.core_side.specs.Parcels.{id_of, IsSent};
+ghost use Rattle.party_ledgers.specs.Packets.{IsFormed};
 ghost use Rattle.grant_table.specs.GrantTables.{as_known};
 ghost use Rattle.place_pass.specs.Placers.{asks_seen};
 ghost use Rattle.written_roles.specs.MasterRoles.{MasterRole, master_started};
@@ -21,14 +22,16 @@ ghost use Rattle.fuxi_master.specs.Steps.{IsFitting, IsSentFormed, StepsAlike, i
 
 use crate::event::{MasterEvent, Outcome};
 use crate::state::Core;
-use crate::step::stepped;
+use crate::step::{heard, stepped};
 use bad_nodes::Votes;
 use cluster_desc::Cluster;
+use core_side::Reply;
 use delta_channel::Place;
 use failover::{Machines, Phase};
 use fuxi_terms::OutOfMemory;
 use grant_table::GrantTable;
 use hard_state::{Hard, Known};
+use party_ledgers::{Kind, Packet, Packets};
 use place_pass::Line;
 use schedule_unit::{AppNo, MachineNo, Party, UnitNo};
 use std::alloc::Global;
@@ -99,6 +102,43 @@ impl Master {
                 steps: steps + 1,
             },
             outcome,
+        ))
+    }
+
+    /// Hears a packet as [`Master::step`] does, with a word in few bytes.
+    pub fn hear(self, alloc: Global, packet: Packet) -> Result<(Master, Reply), OutOfMemory>
+        requires formed { IsFormed packet }
+        requires no_end { packet.kind ≡ Kind.End → ⊥ }
+        requires steps { self.steps < most_steps }
+        ensures steps { IfOk result (λ after. after.0.steps ≡ self.steps + 1) }
+        ensures answers { IfOk result (λ after. StepsAlike (MasterEvent.Packet packet) self.core after.0.core (Outcome.Heard after.1)) }
+    {
+        let Master { core, steps } = self;
+        let (core, reply) = heard(core, alloc, packet, steps + 1)?;
+        Ok((
+            Master {
+                core,
+                steps: steps + 1,
+            },
+            reply,
+        ))
+    }
+
+    /// What its next turn sends, as [`Master::step`] says it.
+    pub fn turn(self, alloc: Global) -> Result<(Master, Packets), OutOfMemory>
+        requires steps { self.steps < most_steps }
+        ensures steps { IfOk result (λ after. after.0.steps ≡ self.steps + 1) }
+        ensures answers { IfOk result (λ after. StepsAlike MasterEvent.Turn self.core after.0.core (Outcome.Sent after.1)) }
+        ensures formed { IfOk result (λ after. AllByRecursion IsSent after.1) }
+    {
+        let packets = self.core.turn(alloc)?;
+        let Master { core, steps } = self;
+        Ok((
+            Master {
+                core,
+                steps: steps + 1,
+            },
+            packets,
         ))
     }
 

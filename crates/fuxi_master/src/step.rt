@@ -15,29 +15,17 @@ ghost use Rattle.fuxi_master.specs.Steps.{IsFitting, IsStep, IsHeard};
 
 use crate::event::{MasterEvent, MasterRefusal, Outcome};
 use crate::state::{Core, news};
+use core_side::Reply;
 use fuxi_terms::OutOfMemory;
-use party_ledgers::{Heard, Kind, Packet, What};
+use party_ledgers::{Kind, Packet};
 use schedule_unit::{AppNo, Job, MachineNo, Role};
 use std::alloc::Global;
-
-// As what the packet of a stranger is heard.
-const STRANGER: Heard = Heard {
-    fresh: false,
-    what: What::Stranger,
-};
 
 // Whether a packet is for the master.
 fn is_for_master(packet: &Packet) -> bool
     ensures { result ≡ same_id (packet_of packet.now).to.id master_id }
 {
     matches!(packet.to.role, Role::Master) && packet.to.number == 0
-}
-
-// Whether a ledger was taken.
-fn is_taken(heard: &Heard) -> bool
-    ensures { result ≡ is_taken heard.now.what }
-{
-    matches!(heard.what, What::Taken)
 }
 
 // One step of a core on the heap, which is the one of this number. It stays where it is unless a job is admitted.
@@ -66,6 +54,25 @@ pub(crate) fn stepped(
     }
 }
 
+// A packet that a core on the heap hears, in the step of this number.
+pub(crate) fn heard(
+    core: Box<Core>,
+    alloc: Global,
+    packet: Packet,
+    steps: u64,
+) -> Result<(Box<Core>, Reply), OutOfMemory>
+    requires core { IsCore (core_of core.value) }
+    requires formed { IsFormed packet }
+    requires no_end { packet.kind ≡ Kind.End → ⊥ }
+    requires within { IsWithin steps (core_of core.value) }
+    requires steps { steps ≤ most_steps }
+    ensures { IfOk result (λ after. IsHeard packet steps (core_of core.value) (core_of after.0.value) after.1) }
+{
+    let mut core = core;
+    let reply = core.hear(alloc, packet, steps)?;
+    Ok((core, reply))
+}
+
 impl Core {
     // One step of any kind but the admission of a job. It is the one of this number.
     fn step(
@@ -84,7 +91,7 @@ impl Core {
         match event {
             MasterEvent::Packet(packet) => {
                 let heard = self.hear(alloc, packet, steps)?;
-                Ok(Outcome::Heard(heard))
+                Ok(Outcome::Heard(heard.heard()))
             }
             MasterEvent::Admit(_) => unreachable!(),
             MasterEvent::Finish(app) => self.step_finish(alloc, app, steps),
@@ -108,7 +115,7 @@ impl Core {
     }
 
     // A packet, with the end of the step where it changed something.
-    fn hear(&mut self, alloc: Global, packet: Packet, steps: u64) -> Result<Heard, OutOfMemory>
+    fn hear(&mut self, alloc: Global, packet: Packet, steps: u64) -> Result<Reply, OutOfMemory>
         requires core { IsCore (core_of self.old) }
         requires formed { IsFormed packet }
         requires no_end { packet.kind ≡ Kind.End → ⊥ }
@@ -119,19 +126,19 @@ impl Core {
         written_roles::law::step_ends();
         core_side::law::strangers_change_nothing();
         if !is_for_master(&packet) {
-            return Ok(STRANGER);
+            return Ok(Reply::stranger());
         }
         match packet.from.role {
-            Role::Master => Ok(STRANGER),
+            Role::Master => Ok(Reply::stranger()),
             Role::Agent => {
                 if packet.from.number >= self.allotment.table().cluster().machines() {
-                    return Ok(STRANGER);
+                    return Ok(Reply::stranger());
                 }
                 self.heard_agent(alloc, packet, steps)
             }
             Role::App => {
                 if self.known.job(AppNo(packet.from.number)).is_none() {
-                    return Ok(STRANGER);
+                    return Ok(Reply::stranger());
                 }
                 self.heard_app(alloc, packet, steps)
             }
@@ -144,7 +151,7 @@ impl Core {
         alloc: Global,
         packet: Packet,
         steps: u64,
-    ) -> Result<Heard, OutOfMemory>
+    ) -> Result<Reply, OutOfMemory>
         requires core { IsCore (core_of self.old) }
         requires formed { IsFormed packet }
         requires no_end { packet.kind ≡ Kind.End → ⊥ }
@@ -168,7 +175,7 @@ impl Core {
     }
 
     // A packet of the application of a known job.
-    fn heard_app(&mut self, alloc: Global, packet: Packet, steps: u64) -> Result<Heard, OutOfMemory>
+    fn heard_app(&mut self, alloc: Global, packet: Packet, steps: u64) -> Result<Reply, OutOfMemory>
         requires core { IsCore (core_of self.old) }
         requires formed { IsFormed packet }
         requires no_end { packet.kind ≡ Kind.End → ⊥ }
@@ -183,11 +190,12 @@ impl Core {
         written_roles::law::step_ends();
         let app = AppNo(packet.from.number);
         let (heard, change) = self.hear_app(alloc, packet)?;
-        let taken = is_taken(&heard);
-        if !heard.fresh && !taken {
+        let fresh = heard.fresh();
+        let taken = heard.is_taken();
+        if !fresh && !taken {
             return Ok(heard);
         }
-        let news = self.take_demand(alloc, app, heard.fresh, taken, &change)?;
+        let news = self.take_demand(alloc, app, fresh, taken, &change)?;
         self.finished(alloc, &news, steps)?;
         Ok(heard)
     }

@@ -4,3 +4,5 @@ pub mod KeptUnder
 pub mod FormsLemmas
 pub mod KeysRise
 pub mod NoForm
+pub mod KeyCodesLemmas
+pub mod OneChange

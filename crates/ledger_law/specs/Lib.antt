@@ -5,3 +5,4 @@ pub mod Shapes
 pub mod Forms
 pub mod OneForm
 pub mod Differing
+pub mod KeyCodes

@@ -4,13 +4,19 @@ ghost use Rattle.std.specs.Prelude.{◌≡◌, ◌+◌, ◌<◌, ◌≤◌, ◌^
 ghost use Rattle.std.specs.FinMap.Entries.{is_sorted};
 ghost use Rattle.fuxi_terms.specs.Counts.{count, set_count, moved};
 ghost use Rattle.ledger_law.specs.Places.{IsPlace};
+ghost use Rattle.ledger_law.specs.KeyCodes.{key_code};
 
 use fuxi_terms::Key;
+use std::cmp::Ordering;
 
 /// A key of entries, whose order tells any two apart.
 pub trait EntryKey: Ord + Copy {
     ghost use Rattle.std.specs.Prelude.{◌≡◌};
     ghost use Rattle.std.specs.declared.cmp.Ordering.TheVariants.{Equal};
+
+    /// The order of keys, as of `cmp`.
+    fn order(&self, other: &Self) -> Ordering
+        ensures { result ≡ Self.cmp self.now other.now };
 
     /// Keys that tie are one.
     ghost exact: { (a b : Self) → Self.cmp a b ≡ Equal → a ≡ b };
@@ -20,6 +26,20 @@ impl EntryKey for Key {
     ghost use Rattle.fuxi_terms.proofs.KeyOrders.{same_key};
 
     ghost exact = { same_key };
+
+    // By one number each, since a search has no branch then that nobody can foresee.
+    fn order(&self, other: &Key) -> Ordering {
+        code(self).cmp(&code(other))
+    }
+}
+
+// A number that rises with the key.
+fn code(key: &Key) -> u64
+    ensures code { result ≡ key_code key.now }
+    ensures unit { key.now.unit < 256 }
+    ensures number { key.now.number < 2 ^ 32 }
+{
+    (key.what as u64 * 256 + key.unit as u64) * 4_294_967_296 + key.number as u64
 }
 
 /// Where the key stands, or, as an error, where it would.
@@ -27,7 +47,7 @@ pub fn place_of<K: EntryKey>(entries: &[(K, u64)], key: &K) -> Result<usize, usi
     requires { T (is_sorted K.cmp entries.now) }
     ensures { IsPlace K.cmp entries.now key.now result }
 {
-    entries.binary_search_by(|entry| entry.0.cmp(key))
+    entries.binary_search_by(|entry| entry.0.order(key))
 }
 
 /// The number at the place of a key, and 0 where it has no entry.
@@ -100,7 +120,7 @@ pub fn keys_rise<K: EntryKey, X: Copy>(entries: &[(K, X)]) -> bool
     ensures { result ≡ is_sorted K.cmp entries.now }
 {
     for i in 1..entries.len() {
-        if !entries[i - 1].0.cmp(&entries[i].0).is_lt() {
+        if !entries[i - 1].0.order(&entries[i].0).is_lt() {
             return false;
         }
     }

@@ -285,6 +285,29 @@ fn are_changes<S: Shape>(entries: &[(Key, i64)]) -> bool
     keys_rise(entries) && are_changes_within::<S>(entries)
 }
 
+// One change, where no entries are dropped: most have one entry, which is searched once then.
+fn change_single<S: Shape>(
+    entries: &mut Vec<(Key, u64)>,
+    key: Key,
+    change: i64,
+) -> Result<(), LedgerFault>
+    requires { AreCounts key_cmp S.greatest_of entries.old.items }
+    ensures ok { OnOk result (change_one key_cmp Below TooGreat S.greatest_of entries.old.items key change ≡ Ok entries.new.items) }
+    ensures err { OnErr result (entries.new.items ≡ entries.old.items) }
+    ensures fault { IfErr result (IsRefusal (change_one key_cmp Below TooGreat S.greatest_of entries.old.items key change)) }
+    ensures counts { AreCounts key_cmp S.greatest_of entries.new.items }
+{
+    let place = place_of(entries, &key);
+    let kept = count_at(entries, &key, place);
+    let n = moved_within::<S>(&key, kept, change)?;
+    match entries.reserve(1) {
+        Ok(()) => {}
+        Err(_) => return Err(LedgerFault::OutOfMemory),
+    }
+    set_entry(entries, place, key, n);
+    Ok(())
+}
+
 // The change's effect on the fields: all of it, or none.
 fn change_all<S: Shape>(
     entries: &mut Vec<(Key, u64)>,
@@ -298,6 +321,9 @@ fn change_all<S: Shape>(
     ensures fault { IfErr result (IsRefusal (change_all key_cmp Below TooGreat S.greatest_of (kept_under same S.DROPPED entries.old.items) changes.now)) }
     ensures counts { AreCounts key_cmp S.greatest_of entries.new.items }
 {
+    if let ([(key, change)], true) = (changes, same) {
+        return change_single::<S>(entries, *key, *change);
+    }
     let dropped = S::DROPPED;
     test_changes::<S>(entries, same, dropped, changes)?;
     match entries.reserve(changes.len()) {

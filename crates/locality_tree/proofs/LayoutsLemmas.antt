@@ -13,29 +13,35 @@ use Rattle.wait_queue.specs.declared.queue.Queue.{Queue}
 use Rattle.wait_queue.specs.Queues.{Item, Stands, IsIn, MayEnter, HasPlace, IsPlace, Apart, entry_at}
 use Rattle.locality_tree.specs.declared.number_set.NumberSet.{NumberSet}
 use Rattle.locality_tree.specs.NumberSets.{in_set, no_set}
-use Rattle.locality_tree.specs.Layouts.{Slots, slot_in, with_slot, number_of, HasNumber, vacancies, entry_in, AreApart, IsQueueAt, AreKept, EntryFits, Turned, IsNoted}
+use Rattle.locality_tree.specs.Layouts.{Places, Slots, slot_in, with_slot, number_of, HasNumber, vacancies, entry_in, AreApart, IsQueueAt, AreKept, EntryFits, Turned, IsNoted}
 use Rattle.locality_tree.proofs.MembersLemmas.{in_here, in_wider, in_middle, Parted, parted, all_from}
 use Rattle.locality_tree.proofs.QueueLaws.{Entries, Distinct, Absent, HavePlaces, member_entry, not_outside, are_apart, same_entry, same_slot, none_some}
 
 -- reads after a slot is noted
-pub unit_inside : (slots : Slots) (n k : ℕ) → k < length (get_or slots n []) → n < length slots
+pub unit_inside : {A : Type 0} (slots : Places A) (n k : ℕ) → k < length (get_or slots n []) → n < length slots
 unit_inside [] n k h = absurd (omega arith)
 unit_inside (r ∷ rs) zero k h = omega arith
 unit_inside (r ∷ rs) (suc n) k h = omega (arith, unit_inside rs n k h)
 
-pub read_same : (slots : Slots) (n k : ℕ) (x : Option Slot) → k < length (get_or slots n []) → slot_in (with_slot slots n k x) n k ≡ x
-read_same slots n k x h = ap (λ (r : List (Option Slot)). get_or r k None) (get_or-set_same slots n (set (get_or slots n []) k x) [] (unit_inside slots n k h)) ∙ get_or-set_same (get_or slots n []) k x None h
+pub place_same : {A : Type 0} (none : A) (slots : Places A) (n k : ℕ) (x : A) → k < length (get_or slots n []) → get_or (get_or (with_slot slots n k x) n []) k none ≡ x
+place_same {A} none slots n k x h = ap (λ (r : List A). get_or r k none) (get_or-set_same slots n (set (get_or slots n []) k x) [] (unit_inside slots n k h)) ∙ get_or-set_same (get_or slots n []) k x none h
 
-pub read_other : (slots : Slots) (n k m p : ℕ) (x : Option Slot) → k < length (get_or slots n []) → (m ≡ n → p ≡ k → ⊥) → slot_in (with_slot slots n k x) m p ≡ slot_in slots m p
-read_other slots n k m p x h d = elim (cases_eq m n) as (λ _. slot_in (with_slot slots n k x) m p ≡ slot_in slots m p) [
-  | inl e ↦ ap (λ (i : ℕ). slot_in (with_slot slots n k x) i p) e
-      ∙ ap (λ (r : List (Option Slot)). get_or r p None) (get_or-set_same slots n (set (get_or slots n []) k x) [] (unit_inside slots n k h))
-      ∙ get_or-set_other (get_or slots n []) k p x None (λ f. d e f)
-      ∙ ap (λ (i : ℕ). slot_in slots i p) (sym e)
-  | inr f ↦ ap (λ (r : List (Option Slot)). get_or r p None) (get_or-set_other slots n m (set (get_or slots n []) k x) [] f)
+pub place_other : {A : Type 0} (none : A) (slots : Places A) (n k m p : ℕ) (x : A) → k < length (get_or slots n []) → (m ≡ n → p ≡ k → ⊥) → get_or (get_or (with_slot slots n k x) m []) p none ≡ get_or (get_or slots m []) p none
+place_other {A} none slots n k m p x h d = elim (cases_eq m n) as (λ _. get_or (get_or (with_slot slots n k x) m []) p none ≡ get_or (get_or slots m []) p none) [
+  | inl e ↦ ap (λ (i : ℕ). get_or (get_or (with_slot slots n k x) i []) p none) e
+      ∙ ap (λ (r : List A). get_or r p none) (get_or-set_same slots n (set (get_or slots n []) k x) [] (unit_inside slots n k h))
+      ∙ get_or-set_other (get_or slots n []) k p x none (λ f. d e f)
+      ∙ ap (λ (i : ℕ). get_or (get_or slots i []) p none) (sym e)
+  | inr f ↦ ap (λ (r : List A). get_or r p none) (get_or-set_other slots n m (set (get_or slots n []) k x) [] f)
 ]
 
-pub unit_lengths : (slots : Slots) (n k m : ℕ) (x : Option Slot) → k < length (get_or slots n []) → length (get_or (with_slot slots n k x) m []) ≡ length (get_or slots m [])
+pub read_same : (slots : Slots) (n k : ℕ) (x : Option Slot) → k < length (get_or slots n []) → slot_in (with_slot slots n k x) n k ≡ x
+read_same = place_same None
+
+pub read_other : (slots : Slots) (n k m p : ℕ) (x : Option Slot) → k < length (get_or slots n []) → (m ≡ n → p ≡ k → ⊥) → slot_in (with_slot slots n k x) m p ≡ slot_in slots m p
+read_other = place_other None
+
+pub unit_lengths : {A : Type 0} (slots : Places A) (n k m : ℕ) (x : A) → k < length (get_or slots n []) → length (get_or (with_slot slots n k x) m []) ≡ length (get_or slots m [])
 unit_lengths slots n k m x h = elim (cases_eq m n) as (λ _. length (get_or (with_slot slots n k x) m []) ≡ length (get_or slots m [])) [
   | inl e ↦ ap (λ (i : ℕ). length (get_or (with_slot slots n k x) i [])) e
       ∙ ap length (get_or-set_same slots n (set (get_or slots n []) k x) [] (unit_inside slots n k h))
@@ -331,7 +337,7 @@ module _ (entries : Entries) (at0 : Slot → Option Node) (queues : List Queue) 
       }
 
 -- a place at which nothing is to change
-pub turned_not : (at : Slot → Option Node) (slots : Slots) (e : Entry) (place : ℕ) (stands : Bool) → is_some (slot_in slots (number_of e) place) ≡ stands → entry_in at (slot_in slots (number_of e) place) ≡ cond stands (Some e) None → Turned at slots at slots e place stands
+turned_not : (at : Slot → Option Node) (slots : Slots) (e : Entry) (place : ℕ) (stands : Bool) → is_some (slot_in slots (number_of e) place) ≡ stands → entry_in at (slot_in slots (number_of e) place) ≡ cond stands (Some e) None → Turned at slots at slots e place stands
 turned_not at slots e place stands m h = record {
   slot = slot_in slots (number_of e) place;
   noted = sym (ap (set slots (number_of e)) (set-get_or (get_or slots (number_of e) []) place None) ∙ set-get_or slots (number_of e) []);
@@ -341,10 +347,18 @@ turned_not at slots e place stands m h = record {
 }
 
 -- what stands at a unit's slot is its entry
-pub entry_here : Entries → (at : Slot → Option Node) (spare : ℕ) (queues : List Queue) (slots : Slots) (sets : List NumberSet) (e : Entry) (place : ℕ) (s : Slot) (kept : AreKept at spare queues slots sets) → EntryFits at (length queues) slots e place → slot_in slots (number_of e) place ≡ Some s → entry_in at (slot_in slots (number_of e) place) ≡ Some e
+entry_here : Entries → (at : Slot → Option Node) (spare : ℕ) (queues : List Queue) (slots : Slots) (sets : List NumberSet) (e : Entry) (place : ℕ) (s : Slot) (kept : AreKept at spare queues slots sets) → EntryFits at (length queues) slots e place → slot_in slots (number_of e) place ≡ Some s → entry_in at (slot_in slots (number_of e) place) ≡ Some e
 entry_here law at spare queues slots sets e place s kept fits some =
     let d : Queue = record { key_first = true; first = None; ends = [] } in
     let q = kept.queues_stand place d fits.queued in
     let i = q.all (number_of e) s some in
     let there : entry_in at (slot_in slots (number_of e) place) ≡ Some i.0 = ap (entry_in at) some ∙ member_entry law at (get_or queues place d) (kept.lists place) q.stands (s, i.0) i.1 in
     there ∙ ap Some (fits.same place i.0 there)
+
+-- where a unit stands already, or stands no more, nothing is to change
+pub turned_already : Entries → (at : Slot → Option Node) (spare : ℕ) (queues : List Queue) (slots : Slots) (sets : List NumberSet) (e : Entry) (place : ℕ) (stands : Bool) → AreKept at spare queues slots sets → EntryFits at (length queues) slots e place → is_some (slot_in slots (number_of e) place) ≡ stands → Turned at slots at slots e place stands
+turned_already law at spare queues slots sets e place stands kept fits is = by (slot_in slots (number_of e) place) refl
+  where
+    by : (o : Option Slot) → slot_in slots (number_of e) place ≡ o → Turned at slots at slots e place stands
+    by None f = turned_not at slots e place stands is (ap (entry_in at) f ∙ ap (λ b. cond b (Some e) None) (sym (ap is_some f) ∙ is))
+    by (Some s) f = turned_not at slots e place stands is (entry_here law at spare queues slots sets e place s kept fits f ∙ ap (λ b. cond b (Some e) None) (sym (ap is_some f) ∙ is))

@@ -37,13 +37,13 @@ left_more at0 at1 at2 olds slots news e k inside l t =
     }
 
 -- places are passed at which it has no slot
-pub left_passed : (at0 at1 : Slot → Option Node) (olds slots read : Slots) (e : Entry) (n k m : ℕ) → n ≡ number_of e → read ≡ slots → ((j : ℕ) → k ≤ j → j < m → slot_in read n j ≡ None) → Left at0 olds at1 slots e k → Left at0 olds at1 slots e m
-left_passed at0 at1 olds slots read e n k m number same none l = record {
+pub left_passed : (at0 at1 : Slot → Option Node) (olds slots : Slots) (e : Entry) (k m : ℕ) → ((j : ℕ) → k ≤ j → j < m → slot_in slots (number_of e) j ≡ None) → Left at0 olds at1 slots e k → Left at0 olds at1 slots e m
+left_passed at0 at1 olds slots e k m none l = record {
   count = l.count;
   width = l.width;
   gone = λ j h. elim (cases_lt j k) as (λ _. slot_in slots (number_of e) j ≡ None) [
     | inl lt ↦ l.gone j lt
-    | inr ge ↦ (λ i. slot_in (sym same i) (sym number i) j) ∙ none j ge h
+    | inr ge ↦ none j ge h
   ];
   own = l.own;
   others = l.others;

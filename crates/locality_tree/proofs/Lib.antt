@@ -2,6 +2,7 @@ pub mod ClusterLemmas
 pub mod LayoutsLemmas
 pub mod LeftLemmas
 pub mod MembersLemmas
+pub mod NumbersLemmas
 pub mod PathsLemmas
 pub mod QueueLaws
 pub mod RanksLemmas

@@ -84,7 +84,7 @@ module _ (law : Entries) (racks : List ℕ) (p : Layout) (t : IsTree racks p) (m
   map_of = value_at p.pool
 
   abbrev pub slots : Slots
-  slots = slots_of p.slots.items
+  slots = slots_of p
 
   abbrev pub rack : ℕ
   rack = rack_place racks (get_or racks m 0)

@@ -14,7 +14,7 @@ module _ (racks : List ℕ) (p : Layout) (t : IsTree racks p) (e : Entry) (seen 
   pub fits_seen : IsTrue (is_admitted seen e.app.0 e.unit.0) → MayWait seen e → (place : ℕ) → place < length p.queues.items → EntryFitsIn p e place
   fits_seen admitted may = may_wait_fits racks p t e (subst (λ (s : TreeRecord). IsTrue (is_admitted s e.app.0 e.unit.0)) (sym view) admitted) (subst (λ (s : TreeRecord). MayWait s e) (sym view) may)
 
-  stands_there : (unit_at seen e.app.0 e.unit.0).entry ≡ Some e → entry_in (value_at p.pool) (slot_in (slots_of p.slots.items) (number_of e) (cluster_place racks)) ≡ Some e
+  stands_there : (unit_at seen e.app.0 e.unit.0).entry ≡ Some e → entry_in (value_at p.pool) (slot_in (slots_of p) (number_of e) (cluster_place racks)) ≡ Some e
   stands_there waits = sym (entry_of racks p (number_of e)) ∙ subst (λ (s : TreeRecord). (unit_at s e.app.0 e.unit.0).entry ≡ Some e) (sym view) waits
 
   -- so does one that waits
@@ -22,7 +22,7 @@ module _ (racks : List ℕ) (p : Layout) (t : IsTree racks p) (e : Entry) (seen 
   waiting_seen law waits place queued = waiting_fits law racks p t e place (stands_there waits) queued
 
   -- and it is seen to stand where it has a slot
-  pub stands_seen : (place : ℕ) → is_some (slot_in (slots_of p.slots.items) (number_of e) place) ≡ get_or (unit_at seen e.app.0 e.unit.0).stands place false
+  pub stands_seen : (place : ℕ) → is_some (slot_in (slots_of p) (number_of e) place) ≡ get_or (unit_at seen e.app.0 e.unit.0).stands place false
   stands_seen place = sym (stands_of racks p (number_of e) place) ∙ ap (λ (s : TreeRecord). get_or (unit_at s e.app.0 e.unit.0).stands place false) view
 
   module _ (p2 : Layout) (kept : AreKeptIn p2) (count : length p2.queues.items ≡ length p.queues.items) where

@@ -12,7 +12,7 @@ use Rattle.wait_queue.specs.declared.queue.Queue.{Queue}
 use Rattle.locality_tree.specs.declared.number_set.NumberSet.{NumberSet}
 use Rattle.locality_tree.specs.Trees.{all_units}
 use Rattle.locality_tree.specs.NumberSets.{in_set, no_set}
-use Rattle.locality_tree.specs.Layouts.{Slots, slots_of, slot_in, with_vacant, vacancies, IsEmptyQueue, AreKept}
+use Rattle.locality_tree.specs.Layouts.{Slots, numbers_of, slot_in, with_vacant, vacancies, IsEmptyQueue, AreKept}
 use Rattle.locality_tree.proofs.MembersLemmas.{all_get}
 use Rattle.locality_tree.proofs.QueueLaws.{Stays, none_some}
 
@@ -127,8 +127,8 @@ kept_empty at spare queues slots sets count is empty sets_count none =
     }
 
 -- what is left of alike units when the last is taken
-pub last_unit : (left rest : List (Vec (Option Slot))) (v : Vec (Option Slot)) (y : List (Option Slot)) → left ≡ rest ++ v ∷ [] → slots_of left ≡ replicate (length left) y → (slots_of rest ≡ replicate (length rest) y) × (v.items ≡ y)
-last_unit left rest v y e h = same_from_push (slots_of rest) (replicate (length rest) y) v.items y (sym (map_push (λ (u : Vec (Option Slot)). u.items) rest v) ∙ sym (ap slots_of e) ∙ h ∙ ap (λ (n : ℕ). replicate n y) (ap length e ∙ length_push rest v) ∙ sym (replicate_more (length rest) y))
+pub last_unit : (left rest : List (Vec ℕ)) (v : Vec ℕ) (y : List ℕ) → left ≡ rest ++ v ∷ [] → numbers_of left ≡ replicate (length left) y → (numbers_of rest ≡ replicate (length rest) y) × (v.items ≡ y)
+last_unit left rest v y e h = same_from_push (numbers_of rest) (replicate (length rest) y) v.items y (sym (map_push (λ (u : Vec ℕ). u.items) rest v) ∙ sym (ap numbers_of e) ∙ h ∙ ap (λ (n : ℕ). replicate n y) (ap length e ∙ length_push rest v) ∙ sym (replicate_more (length rest) y))
 
 pub units_are : all_units ≡ 2048
 unfolding all_units

@@ -1,12 +1,12 @@
 -- How a tree lays out its units and queues. No public clause cites this module.
-use Rattle.std.specs.Prelude.{◌≡◌, ◌≢◌, ℕ, zero, suc, ◌+◌, ◌<◌, ◌≤◌, Bool, true, cond, List, [], length, map, replicate, Option, Some, None, is_some, ◌⊎◌}
+use Rattle.std.specs.Prelude.{◌≡◌, ◌≢◌, ℕ, zero, suc, ◌+◌, ◌<◌, ◌≤◌, Bool, true, false, cond, List, [], ◌∷◌, length, map, replicate, Option, Some, None, is_some, ◌⊎◌}
 use Rattle.std.specs.Global.{Vec}
 use Rattle.std.specs.List.{sum_by, count_by}
 use Rattle.std.specs.Option.{is_none}
 use Rattle.std.proofs.Common.{get_or, set}
 use Rattle.fuxi_terms.proofs.Members.{In}
 use Rattle.fuxi_terms.specs.Limits.{most_jobs, most_units, most_machines, most_racks}
-use Rattle.slot_pool.specs.Pools.{value_at, SameSlots}
+use Rattle.slot_pool.specs.Pools.{PoolRecord, value_at, slot_at, SameSlots}
 use Rattle.slot_pool.specs.declared.pool.Slot.{Slot}
 use Rattle.wait_queue.specs.declared.node.Entry.{Entry}
 use Rattle.wait_queue.specs.declared.node.Node.{Node}
@@ -17,23 +17,51 @@ use Rattle.locality_tree.specs.declared.number_set.NumberSet.{NumberSet}
 use Rattle.locality_tree.specs.Trees.{UnitState, TreeRecord, unit_number, all_units, place_count, cluster_place}
 use Rattle.locality_tree.specs.NumberSets.{in_set, no_set}
 
--- the slots of the units, by the unit's number and then by place
-abbrev pub Slots : Type 0
-Slots = List (List (Option Slot))
+-- what the units have at their places, by the unit's number and then by place
+abbrev pub Places : Type 0 → Type 0
+Places A = List (List A)
 
-abbrev pub slots_of : List (Vec (Option Slot)) → Slots
-slots_of units = map (λ v. v.items) units
+abbrev pub Slots : Type 0
+Slots = Places (Option Slot)
 
 abbrev pub slot_in : Slots → ℕ → ℕ → Option Slot
 slot_in slots n place = get_or (get_or slots n []) place None
 
-abbrev pub with_slot : Slots → ℕ → ℕ → Option Slot → Slots
-with_slot slots n place slot = set slots n (set (get_or slots n []) place slot)
+abbrev pub number_in : Places ℕ → ℕ → ℕ → ℕ
+number_in rows n place = get_or (get_or rows n []) place 0
+
+abbrev pub with_slot : {A : Type 0} → Places A → ℕ → ℕ → A → Places A
+with_slot rows n place x = set rows n (set (get_or rows n []) place x)
+
+-- so many units from the first on have places, with the same at each
+abbrev pub with_places : {A : Type 0} → A → Places A → ℕ → ℕ → ℕ → Places A
+with_places x rows first places zero = rows
+with_places x rows first places (suc n) = set (with_places x rows first places n) (first + n) (replicate places x)
 
 -- so many units from the first on have places without a slot
 abbrev pub with_vacant : Slots → ℕ → ℕ → ℕ → Slots
-with_vacant slots first places zero = slots
-with_vacant slots first places (suc n) = set (with_vacant slots first places n) (first + n) (replicate places None)
+with_vacant slots first places n = with_places None slots first places n
+
+-- the numbers that are noted for the units
+abbrev pub numbers_of : List (Vec ℕ) → Places ℕ
+numbers_of units = map (λ v. v.items) units
+
+-- the slot of a number in its present generation, where there is one
+abbrev pub slot_under : PoolRecord Node → Bool → ℕ → Option Slot
+slot_under pool false number = None
+slot_under pool true number = Some (slot_at pool number)
+
+-- what is seen of each of a list, with its place
+abbrev pub by_place : {A B : Type 0} → (ℕ → A → B) → ℕ → List A → List B
+by_place see k [] = []
+by_place see k (x ∷ xs) = see k x ∷ by_place see (suc k) xs
+
+-- Of a slot its number alone is noted. A unit has one where it is in the set of the place; that is live, so its generation is the present one.
+abbrev pub slots_seen : PoolRecord Node → List NumberSet → Places ℕ → Slots
+slots_seen pool sets rows = by_place (λ n row. by_place (λ k x. slot_under pool (in_set (get_or sets k no_set) n) x) 0 row) 0 rows
+
+abbrev pub slots_of : Layout → Slots
+slots_of p = slots_seen p.pool p.sets.items (numbers_of p.slots.items)
 
 abbrev pub number_of : Entry → ℕ
 number_of e = unit_number e.app.0 e.unit.0
@@ -77,7 +105,7 @@ pub record AreKept (at : Slot → Option Node) (spare : ℕ) (queues : List Queu
   pub marked : (n place : ℕ) → place < length queues → in_set (get_or sets place no_set) n ≡ is_some (slot_in slots n place)
 
 abbrev pub AreKeptIn : Layout → Type 0
-AreKeptIn p = AreKept (value_at p.pool) p.pool.spare p.queues.items (slots_of p.slots.items) p.sets.items
+AreKeptIn p = AreKept (value_at p.pool) p.pool.spare p.queues.items (slots_of p) p.sets.items
 
 -- an entry of which the unit is admitted, which is its unit's wherever that stands, and has no other's turn
 pub record EntryFits (at : Slot → Option Node) (count : ℕ) (slots : Slots) (e : Entry) (place : ℕ) : Type 0 where
@@ -88,7 +116,7 @@ pub record EntryFits (at : Slot → Option Node) (count : ℕ) (slots : Slots) (
   pub alone : (n k : ℕ) (f : Entry) → entry_in at (slot_in slots n k) ≡ Some f → f.turn ≡ e.turn → n ≡ number_of e
 
 abbrev pub EntryFitsIn : Layout → Entry → ℕ → Type 0
-EntryFitsIn p e place = EntryFits (value_at p.pool) (length p.queues.items) (slots_of p.slots.items) e place
+EntryFitsIn p e place = EntryFits (value_at p.pool) (length p.queues.items) (slots_of p) e place
 
 -- One unit stands at a place or does not, and at every other place stands the entry that stood there.
 pub record Turned (before : Slot → Option Node) (olds : Slots) (after : Slot → Option Node) (slots : Slots) (e : Entry) (place : ℕ) (stands : Bool) : Type 0 where
@@ -99,7 +127,7 @@ pub record Turned (before : Slot → Option Node) (olds : Slots) (after : Slot �
   pub others : (n k : ℕ) → (n ≡ number_of e → k ≡ place → ⊥) → entry_in after (slot_in slots n k) ≡ entry_in before (slot_in olds n k)
 
 abbrev pub TurnedIn : Layout → Layout → Entry → ℕ → Bool → Type 0
-TurnedIn old new e place stands = Turned (value_at old.pool) (slots_of old.slots.items) (value_at new.pool) (slots_of new.slots.items) e place stands
+TurnedIn old new e place stands = Turned (value_at old.pool) (slots_of old) (value_at new.pool) (slots_of new) e place stands
 
 -- One unit stands at none of the places below this one, and every other unit stands as before.
 pub record Left (before : Slot → Option Node) (olds : Slots) (after : Slot → Option Node) (slots : Slots) (e : Entry) (below : ℕ) : Type 0 where
@@ -111,13 +139,13 @@ pub record Left (before : Slot → Option Node) (olds : Slots) (after : Slot →
   pub entries : (n k : ℕ) → n ≢ number_of e → entry_in after (slot_in slots n k) ≡ entry_in before (slot_in olds n k)
 
 abbrev pub LeftIn : Layout → Layout → Entry → ℕ → Type 0
-LeftIn old new e below = Left (value_at old.pool) (slots_of old.slots.items) (value_at new.pool) (slots_of new.slots.items) e below
+LeftIn old new e below = Left (value_at old.pool) (slots_of old) (value_at new.pool) (slots_of new) e below
 
 -- so many units from the first on have places, at none of which they stand, and nothing else changes
 pub record Admits (old new : Layout) (first units : ℕ) : Type 0 where
   pub kept : AreKeptIn new
   pub count : length new.queues.items ≡ length old.queues.items
-  pub slots : slots_of new.slots.items ≡ with_vacant (slots_of old.slots.items) first (length old.queues.items) units
+  pub slots : slots_of new ≡ with_vacant (slots_of old) first (length old.queues.items) units
   pub same : SameSlots old.pool new.pool
 
 -- one unit is in the set of a place or is not, and nothing else changes
@@ -130,7 +158,7 @@ abbrev pub state_of : (Slot → Option Node) → ℕ → List (Option Slot) → 
 state_of at last places = record { entry = entry_in at (get_or places last None); stands = map is_some places }
 
 abbrev pub states_in : List ℕ → Layout → List UnitState
-states_in racks p = map (λ v. state_of (value_at p.pool) (cluster_place racks) v.items) p.slots.items
+states_in racks p = map (state_of (value_at p.pool) (cluster_place racks)) (slots_of p)
 
 abbrev pub tree_record : List ℕ → Layout → TreeRecord
 tree_record racks p = record { racks = racks; units = states_in racks p }
@@ -146,5 +174,5 @@ pub record IsTree (racks : List ℕ) (p : Layout) : Type 0 where
   pub in_racks : (m : ℕ) → m < length racks → get_or racks m 0 < most_racks
   pub queue_count : length p.queues.items ≡ place_count racks
   pub unit_count : length p.slots.items ≡ all_units
-  pub one_entry : (n k : ℕ) (e : Entry) → entry_in (value_at p.pool) (slot_in (slots_of p.slots.items) n k) ≡ Some e → IsOwn (value_at p.pool) (slots_of p.slots.items) (cluster_place racks) n e
-  pub turns : (n m : ℕ) (e f : Entry) → entry_in (value_at p.pool) (slot_in (slots_of p.slots.items) n (cluster_place racks)) ≡ Some e → entry_in (value_at p.pool) (slot_in (slots_of p.slots.items) m (cluster_place racks)) ≡ Some f → e.turn ≡ f.turn → n ≡ m
+  pub one_entry : (n k : ℕ) (e : Entry) → entry_in (value_at p.pool) (slot_in (slots_of p) n k) ≡ Some e → IsOwn (value_at p.pool) (slots_of p) (cluster_place racks) n e
+  pub turns : (n m : ℕ) (e f : Entry) → entry_in (value_at p.pool) (slot_in (slots_of p) n (cluster_place racks)) ≡ Some e → entry_in (value_at p.pool) (slot_in (slots_of p) m (cluster_place racks)) ≡ Some f → e.turn ≡ f.turn → n ≡ m

@@ -1,11 +1,11 @@
 //! Where each unit stands: the queues by their places, and the slots that each unit has there.
 
-ghost use Rattle.std.specs.Prelude.{◌≡◌, ℕ, ◌+◌, ◌*◌, ◌^◌, ◌<◌, ◌≤◌, [], length, replicate, None, Some, is_some, true, false, IfOk, OnOk, OnErr};
+ghost use Rattle.std.specs.Prelude.{◌≡◌, ℕ, ◌+◌, ◌*◌, ◌^◌, ◌<◌, ◌≤◌, [], length, replicate, None, Some, is_some, IsSome, true, false, IfOk, OnOk, OnErr};
 ghost use Rattle.std.specs.List.{AllByRecursion};
 ghost use Rattle.std.proofs.Common.{get_or};
 ghost use Rattle.locality_tree.specs.Trees.{all_units};
 ghost use Rattle.locality_tree.specs.NumberSets.{in_set, no_set};
-ghost use Rattle.locality_tree.specs.Layouts.{slots_of, slot_in, with_slot, with_vacant, number_of, HasNumber, IsEmptyQueue, AreKeptIn, EntryFitsIn, TurnedIn, LeftIn, Admits, IsNoted};
+ghost use Rattle.locality_tree.specs.Layouts.{slots_of, numbers_of, number_in, slot_in, with_slot, with_places, number_of, HasNumber, IsEmptyQueue, AreKeptIn, EntryFitsIn, TurnedIn, LeftIn, Admits, IsNoted};
 
 use crate::number_set::NumberSet;
 use fuxi_terms::OutOfMemory;
@@ -14,8 +14,9 @@ use slot_pool::{Pool, Slot};
 use std::alloc::Global;
 use wait_queue::{Entry, Node, Queue, law};
 
-/// The slots of one unit, by place.
-pub(crate) type UnitSlots = Vec<Option<Slot>>;
+/// The numbers of one unit's slots, by place. They count only where the unit is in the set of the place; there
+/// the slot is live, so the pool knows its generation.
+pub(crate) type UnitSlots = Vec<u32>;
 
 /// The queues by place: one for each machine, one for each of 64 racks, and the cluster's.
 #[derive(Drop)]
@@ -24,7 +25,7 @@ pub(crate) struct Layout {
     pub(crate) queues: Vec<Queue>,
     /// By the unit's number.
     pub(crate) slots: Vec<UnitSlots>,
-    /// By place: the units that stand there. They say in a bit what `slots` says in a slot.
+    /// By place: the units that stand there.
     pub(crate) sets: Vec<NumberSet>,
 }
 
@@ -36,37 +37,36 @@ pub(crate) fn number_of(entry: &Entry) -> usize
     MOST_UNITS * entry.app.0 as usize + entry.unit.0 as usize
 }
 
-/// The slot of a unit at a place.
-fn slot_in(slots: &[UnitSlots], number: usize, place: usize) -> Option<Slot>
-    requires { place < length (get_or (slots_of slots.now) number []) }
-    ensures { result ≡ slot_in (slots_of slots.now) number place }
+/// The number that is noted for a unit at a place.
+fn number_in(slots: &[UnitSlots], number: usize, place: usize) -> u32
+    requires { place < length (get_or (numbers_of slots.now) number []) }
+    ensures { result ≡ number_in (numbers_of slots.now) number place }
 {
     let places = &slots[number];
     places[place]
 }
 
-/// The first place from one on at which a unit has a slot, and the end where it has none before it.
-fn first_slot(slots: &[UnitSlots], number: usize, from: usize, end: usize) -> usize
+/// The first place from one on at which a unit stands, and the end where it stands at none before it.
+fn first_place(sets: &[NumberSet], number: usize, from: usize, end: usize) -> usize
     requires order { from ≤ end }
-    requires there { from < length (get_or (slots_of slots.now) number []) }
-    requires inside { end ≤ length (get_or (slots_of slots.now) number []) }
+    requires inside { end ≤ length sets.now }
+    requires number { number < 2048 }
     ensures least { from ≤ result }
     ensures inside { result ≤ end }
-    ensures between { (k : ℕ) → from ≤ k → k < result → slot_in (slots_of slots.now) number k ≡ None }
+    ensures between { (k : ℕ) → from ≤ k → k < result → in_set (get_or sets.now k no_set) number ≡ false }
 {
-    let places = &slots[number];
     for place in from..end {
-        if places[place].is_some() {
+        if sets[place].contains(number) {
             return place;
         }
     }
     end
 }
 
-/// Notes the slot of a unit at a place.
-fn note_slot(slots: &mut Vec<UnitSlots>, number: usize, place: usize, slot: Option<Slot>)
-    requires { place < length (get_or (slots_of slots.old.items) number []) }
-    ensures { slots_of slots.new.items ≡ with_slot (slots_of slots.old.items) number place slot }
+/// Notes the number of a unit's slot at a place.
+fn note_slot(slots: &mut Vec<UnitSlots>, number: usize, place: usize, slot: u32)
+    requires { place < length (get_or (numbers_of slots.old.items) number []) }
+    ensures { numbers_of slots.new.items ≡ with_slot (numbers_of slots.old.items) number place slot }
 {
     let places = &mut slots[number];
     places[place] = slot;
@@ -96,11 +96,11 @@ fn empty_queues(alloc: Global, count: usize) -> Result<Vec<Queue>, OutOfMemory>
 
 /// So many units, each with so many places at none of which it stands.
 fn vacant_units(alloc: Global, count: usize, places: usize) -> Result<Vec<UnitSlots>, OutOfMemory>
-    ensures { IfOk result (λ units. slots_of units.items ≡ replicate count (replicate places None)) }
+    ensures { IfOk result (λ units. numbers_of units.items ≡ replicate count (replicate places 0)) }
 {
     let mut units = Vec::with_capacity(alloc, count)?;
     for _ in 0..count {
-        units.push(Vec::from_elem(alloc, None, places)?)?;
+        units.push(Vec::from_elem(alloc, 0, places)?)?;
     }
     Ok(units)
 }
@@ -108,7 +108,7 @@ fn vacant_units(alloc: Global, count: usize, places: usize) -> Result<Vec<UnitSl
 /// The units from the first on get these places.
 fn put_units(slots: &mut Vec<UnitSlots>, first: usize, units: Vec<UnitSlots>)
     requires inside { first + length units.items ≤ length slots.old.items }
-    ensures { (places : ℕ) → slots_of units.items ≡ replicate (length units.items) (replicate places None) → slots_of slots.new.items ≡ with_vacant (slots_of slots.old.items) first places (length units.items) }
+    ensures { (places : ℕ) → numbers_of units.items ≡ replicate (length units.items) (replicate places 0) → numbers_of slots.new.items ≡ with_places 0 (numbers_of slots.old.items) first places (length units.items) }
 {
     let mut left = units;
     for index in 0..left.len() {
@@ -124,7 +124,7 @@ impl Layout {
     pub(crate) fn start(alloc: Global, count: usize) -> Result<Layout, OutOfMemory>
         ensures kept { IfOk result AreKeptIn }
         ensures count { IfOk result (λ layout. length layout.queues.items ≡ count) }
-        ensures slots { IfOk result (λ layout. slots_of layout.slots.items ≡ replicate all_units []) }
+        ensures slots { IfOk result (λ layout. slots_of layout ≡ replicate all_units []) }
     {
         Ok(Layout {
             pool: Pool::with_room(alloc, 0)?,
@@ -138,7 +138,7 @@ impl Layout {
     fn enter(&mut self, place: usize, entry: &Entry)
         requires kept { AreKeptIn self.old }
         requires fits { EntryFitsIn self.old entry.now place }
-        requires outside { slot_in (slots_of self.old.slots.items) (number_of entry.now) place ≡ None }
+        requires outside { slot_in (slots_of self.old) (number_of entry.now) place ≡ None }
         ensures kept { AreKeptIn self.new }
         ensures count { length self.new.queues.items ≡ length self.old.queues.items }
         ensures turned { TurnedIn self.old self.new entry.now place true }
@@ -149,7 +149,7 @@ impl Layout {
         let number = number_of(entry);
         let queue = &mut self.queues[place];
         let slot = queue.insert(&mut self.pool, *entry);
-        note_slot(&mut self.slots, number, place, Some(slot));
+        note_slot(&mut self.slots, number, place, slot.number);
         note_unit(&mut self.sets, place, number, true);
     }
 
@@ -157,7 +157,7 @@ impl Layout {
     fn leave(&mut self, place: usize, entry: &Entry, slot: Slot)
         requires kept { AreKeptIn self.old }
         requires fits { EntryFitsIn self.old entry.now place }
-        requires inside { slot_in (slots_of self.old.slots.items) (number_of entry.now) place ≡ Some slot }
+        requires inside { slot_in (slots_of self.old) (number_of entry.now) place ≡ Some slot }
         ensures kept { AreKeptIn self.new }
         ensures count { length self.new.queues.items ≡ length self.old.queues.items }
         ensures turned { TurnedIn self.old self.new entry.now place false }
@@ -167,16 +167,27 @@ impl Layout {
         let number = number_of(entry);
         let queue = &mut self.queues[place];
         queue.remove(&mut self.pool, slot);
-        note_slot(&mut self.slots, number, place, None);
         note_unit(&mut self.sets, place, number, false);
     }
 
     /// Whether the unit stands at the place.
     pub(crate) fn stands_at(&self, place: usize, entry: &Entry) -> bool
-        requires { EntryFitsIn self.now entry.now place }
-        ensures { result ≡ is_some (slot_in (slots_of self.now.slots.items) (number_of entry.now) place) }
+        requires kept { AreKeptIn self.now }
+        requires fits { EntryFitsIn self.now entry.now place }
+        ensures { result ≡ is_some (slot_in (slots_of self.now) (number_of entry.now) place) }
     {
-        slot_in(&self.slots, number_of(entry), place).is_some()
+        self.sets[place].contains(number_of(entry))
+    }
+
+    /// The slot of a unit that stands at a place.
+    fn slot_at(&self, place: usize, entry: &Entry) -> Slot
+        requires kept { AreKeptIn self.now }
+        requires fits { EntryFitsIn self.now entry.now place }
+        requires stands { IsSome (slot_in (slots_of self.now) (number_of entry.now) place) }
+        ensures { slot_in (slots_of self.now) (number_of entry.now) place ≡ Some result }
+    {
+        let number = number_in(&self.slots, number_of(entry), place);
+        self.pool.slot(number)
     }
 
     /// The unit stands at the place, or does not.
@@ -188,18 +199,15 @@ impl Layout {
         ensures turned { TurnedIn self.old self.new entry.now place stands }
     {
         law::standing_lists();
-        match slot_in(&self.slots, number_of(entry), place) {
-            Some(slot) => {
-                if !stands {
-                    self.leave(place, entry, slot);
-                }
-            }
-            None => {
-                if stands {
-                    self.enter(place, entry);
-                }
-            }
+        if self.stands_at(place, entry) == stands {
+            return;
         }
+        if stands {
+            self.enter(place, entry);
+            return;
+        }
+        let slot = self.slot_at(place, entry);
+        self.leave(place, entry, slot);
     }
 
     /// The unit stands nowhere.
@@ -213,7 +221,7 @@ impl Layout {
         let places = self.queues.len();
         let mut next = 0;
         while next < places {
-            let place = first_slot(&self.slots, number_of(entry), next, places);
+            let place = first_place(&self.sets, number_of(entry), next, places);
             if place >= places {
                 return;
             }
@@ -233,7 +241,7 @@ impl Layout {
         requires kept { AreKeptIn self.old }
         requires inside { first + units ≤ length self.old.slots.items }
         requires few { units * length self.old.queues.items < 2 ^ 64 }
-        requires new { (k : ℕ) → k < units → length (get_or (slots_of self.old.slots.items) (first + k) []) ≡ 0 }
+        requires new { (k : ℕ) → k < units → length (get_or (slots_of self.old) (first + k) []) ≡ 0 }
         ensures ok { OnOk result (Admits self.old self.new first units) }
         ensures err { OnErr result (self.new ≡ self.old) }
     {

@@ -6,3 +6,4 @@ pub mod Joins
 pub mod PartyDifferences
 pub mod Packets
 pub mod Weighing
+pub mod PairCodes

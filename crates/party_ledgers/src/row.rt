@@ -8,6 +8,7 @@ ghost use Rattle.fuxi_terms.specs.Cluster.{are_quantities};
 ghost use Rattle.fuxi_terms.specs.Vectors.{is_zero};
 ghost use Rattle.fuxi_terms.specs.Counts.{AreCounts, AreChanges, count, moved_within, set_count, is_no_change};
 ghost use Rattle.ledger_law.specs.Applying.{IsRefusal};
+ghost use Rattle.party_ledgers.specs.PairCodes.{pair_code};
 ghost use Rattle.fuxi_terms.specs.Rows.{IsRow, AreRowChanges, greatest_row, patched_row, change_row_once, row_below, row_too_great, fault_key};
 
 use fuxi_terms::limits::{GREATEST_COUNT, GREATEST_QUANTITY, MOST_ENTRIES, MOST_JOBS, MOST_UNITS};
@@ -16,6 +17,7 @@ use ledger_law::{Key, LedgerFault, OutOfMemory};
 use res_vector::Res;
 use schedule_unit::{AppNo, UnitNo};
 use std::alloc::Global;
+use std::cmp::Ordering;
 use std::marker::Model;
 
 // What the entry of a row is about: a job, a unit of it, and the size of one grant.
@@ -38,6 +40,23 @@ impl EntryKey for RowKey {
     ghost use Rattle.fuxi_terms.proofs.KeyOrders.{same_row_key};
 
     ghost exact = { same_row_key };
+
+    // By one number for both first, since a search has fewer branches then.
+    fn order(&self, other: &RowKey) -> Ordering {
+        let pairs = pair_code(self).cmp(&pair_code(other));
+        if pairs.is_eq() {
+            return self.size.cmp(&other.size);
+        }
+        pairs
+    }
+}
+
+// A number that rises with the job and the unit of a key.
+fn pair_code(key: &RowKey) -> u64
+    ensures code { result ≡ pair_code key.now }
+    ensures unit { key.now.unit < 256 }
+{
+    key.job as u64 * 256 + key.unit as u64
 }
 
 // The name of a key in a fault.

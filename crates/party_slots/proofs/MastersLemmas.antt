@@ -1,6 +1,6 @@
 -- Masters in their slots.
 use Rattle.std.proofs.Common.{◌≡◌, ℕ, ◌<◌, Bool, true, false, cond, not, nat_eq, List, [], ◌∷◌, map, Option, Some, None, is_some, Result, Ok, Err, ◌≤◌, refl, sym, ◌∙◌, ap, subst}
-use Rattle.std.specs.Prelude.{OnOk, T, ◌||◌}
+use Rattle.std.specs.Prelude.{IfOk, OnOk, T, ◌||◌}
 use Rattle.std.specs.List.{AllByRecursion, list_any}
 use Rattle.std.specs.List.Sorted.{IsStrictlySortedBy}
 use Rattle.std.specs.Map.{keys_of, lookup}
@@ -39,55 +39,42 @@ use Rattle.party_orders.specs.OrderedParties.{KnowsWritten, LeavesOrder, ObeyedA
 use Rattle.party_orders.specs.declared.masters.Halt.{Halt}
 use Rattle.schedule_text.specs.declared.refusal.Refusal.{Refusal}
 use Rattle.fuxi_master.specs.declared.event.Outcome.{Outcome}
-use Rattle.fuxi_master.specs.declared.event.Outcome.TheVariants.{Done, Refused, Sent, Heard as HeardOne}
+use Rattle.fuxi_master.specs.declared.event.Outcome.TheVariants.{Sent, Heard as HeardOne}
 use Rattle.written_parties.specs.SeenParties.{Role, OfMaster, OfAgent, OfApp, Masters, hears, resynced, seen, GovernsAs, Governs, MasterStarts, master_after}
-use Rattle.party_slots.specs.PartyAnswers.{Hears, Sends}
+use Rattle.party_slots.specs.PartyAnswers.{Hears, HearsAlike, Sends, SendsAlike}
 use Rattle.party_slots.specs.Slots.{SlotsRecord, entry_at, slot_at, boot_at, IsSet, IsGone, IsNone, StandsAt, StartInWorld}
 use Rattle.party_slots.specs.RunningMasters.{MasterStands, AreMastersOf, AreMastersOver, MasterAt, MasterRunsAs, MasterStartInWorld, StopInWorld, ObeysOneIn, ObeyInWorld, RestsAgain, epochs_of}
 use Rattle.party_slots.proofs.SlotsLemmas.{stand_now, stand_set, stand_still, stand_same, at_slot, ties}
 
--- What a master answers. A packet was heard so
-record IsHeardAs (o : Outcome) (new : Bool) (word : What) : Type 0 where
-  heard : Heard
-  answers : o ≡ HeardOne heard
-  fresh : heard.fresh ≡ new
-  says : heard.what ≡ word
+-- What a master answers
+same_heard : (new old : Bool) (word other : What) → HeardAs new word ≡ HeardAs old other → (new ≡ old) × (word ≡ other)
+same_heard new old word other e = (cc, cc)
 
-heard_as : (o : Outcome) (new : Bool) (word : What) → answer_of o ≡ HeardAs new word → IsHeardAs o new word
-heard_as Done new word e = cc
-heard_as (Refused f) new word e = cc
-heard_as (Sent packets) new word e = cc
-heard_as (HeardOne heard) new word e = record { heard = heard; answers = refl; fresh = cc; says = cc }
+same_sent : (parcels others : List Parcel) → SentAs parcels ≡ SentAs others → parcels ≡ others
+same_sent parcels others e = cc
 
--- these packets were sent
-record IsSent (o : Outcome) (parcels : List Parcel) : Type 0 where
-  packets : List Packet
-  answers : o ≡ Sent packets
-  same : map parcel_is packets ≡ parcels
+pub heard_role : (packet : Packet) (old : MasterRecord) (r : Result (MasterRecord × Heard) OutOfMemory) → IfOk r (λ after. StepsAlike (PacketComes packet) old.core after.0.core (HeardOne after.1))
+    → IfOk r (λ after. HearsAlike (MasterStands old) (MasterStands after.0) packet after.1)
+heard_role packet old (Err e) steps = tt
+heard_role packet old (Ok after) steps = λ r s. by r s
+  where
+    by : (r : Role) → MasterStands old r → Hears (MasterStands after.0) (hears r (parcel_is packet)) after.1
+    by (OfMaster r) s =
+        let a = steps r s in
+        let h = same_heard _ _ _ _ a.says in
+        record { role = a.role; fresh = h.0; says = h.1 }
+    by (OfAgent r) s = absurd s
+    by (OfApp r) s = absurd s
 
-sent_as : (o : Outcome) (parcels : List Parcel) → answer_of o ≡ SentAs parcels → IsSent o parcels
-sent_as Done parcels e = cc
-sent_as (Refused f) parcels e = cc
-sent_as (Sent packets) parcels e = record { packets = packets; answers = refl; same = cc }
-sent_as (HeardOne heard) parcels e = cc
-
-pub hears_role : (packet : Packet) (old new : MasterRecord) (o : Outcome) (heard : Heard) → StepsAlike (PacketComes packet) old.core new.core o → ((h : Heard) → o ≡ HeardOne h → heard ≡ h)
-    → (r : Role) → MasterStands old r → Hears (MasterStands new) (hears r (parcel_is packet)) heard
-hears_role packet old new o heard steps reads (OfMaster r) s =
-    let a = steps r s in
-    let h = heard_as o _ _ a.says in
-    let is = reads h.heard h.answers in
-    record { role = a.role; fresh = ap (λ (x : Heard). x.fresh) is ∙ h.fresh; says = ap (λ (x : Heard). x.what) is ∙ h.says }
-hears_role packet old new o heard steps reads (OfAgent r) s = absurd s
-hears_role packet old new o heard steps reads (OfApp r) s = absurd s
-
-pub sends_role : (old new : MasterRecord) (o : Outcome) (packets : List Packet) → StepsAlike Turn old.core new.core o → ((ps : List Packet) → o ≡ Sent ps → packets ≡ ps) → (r : Role) → MasterStands old r → Sends (MasterStands new) r packets
-sends_role old new o packets steps reads (OfMaster r) s =
-    let a = steps r s in
-    let h = sent_as o _ a.says in
-    record { role = a.role; says = ap (map parcel_is) (reads h.packets h.answers) ∙ h.same }
-sends_role old new o packets steps reads (OfAgent r) s = absurd s
-sends_role old new o packets steps reads (OfApp r) s = absurd s
+pub sent_role : (old : MasterRecord) (r : Result (MasterRecord × List Packet) OutOfMemory) → IfOk r (λ after. StepsAlike Turn old.core after.0.core (Sent after.1))
+    → IfOk r (λ after. SendsAlike (MasterStands old) (MasterStands after.0) after.1)
+sent_role old (Err e) steps = tt
+sent_role old (Ok after) steps = λ r s. by r s
+  where
+    by : (r : Role) → MasterStands old r → Sends (MasterStands after.0) r after.1
+    by (OfMaster r) s = let a = steps r s in record { role = a.role; says = same_sent _ _ a.says }
+    by (OfAgent r) s = absurd s
+    by (OfApp r) s = absurd s
 
 pub resyncs_role : (old new : MasterRecord) (o : Outcome) → StepsAlike Resync old.core new.core o → (r : Role) → MasterStands old r → MasterStands new (resynced r)
 resyncs_role old new o steps (OfMaster r) s = (steps r s).role

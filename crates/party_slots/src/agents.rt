@@ -8,8 +8,9 @@ ghost use Rattle.party_slots.specs.Peers.{AgentStartInWorld, agent_steps};
 use crate::party::Party;
 use crate::slots::Slots;
 use agent_core::Agent;
+use core_side::Reply;
 use ledger_law::OutOfMemory;
-use party_ledgers::{Heard, Kind, Packet, Packets};
+use party_ledgers::{Kind, Packet, Packets};
 use res_vector::Res;
 use schedule_unit::MachineNo;
 use std::alloc::Global;
@@ -22,8 +23,8 @@ impl Party for Agent {
 
     ghost steps = { agent_steps };
 
-    fn hear(self, alloc: Global, packet: Packet) -> Result<(Agent, Heard), OutOfMemory> {
-        self.on_packet(alloc, &packet)
+    fn hear(self, alloc: Global, packet: Packet) -> Result<(Agent, Reply), OutOfMemory> {
+        Agent::hear(self, alloc, &packet)
     }
 
     fn turn(self, alloc: Global) -> Result<(Agent, Packets), OutOfMemory> {

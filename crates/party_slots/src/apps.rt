@@ -10,8 +10,9 @@ use crate::party::Party;
 use crate::slots::Slots;
 use app_master::AppMaster;
 use cluster_desc::Cluster;
+use core_side::Reply;
 use ledger_law::OutOfMemory;
-use party_ledgers::{Heard, Kind, Packet, Packets};
+use party_ledgers::{Kind, Packet, Packets};
 use party_orders::AppCommand;
 use schedule_text::Refusal;
 use schedule_unit::AppNo;
@@ -25,8 +26,8 @@ impl Party for AppMaster {
 
     ghost steps = { app_steps };
 
-    fn hear(self, alloc: Global, packet: Packet) -> Result<(AppMaster, Heard), OutOfMemory> {
-        self.on_packet(alloc, &packet)
+    fn hear(self, alloc: Global, packet: Packet) -> Result<(AppMaster, Reply), OutOfMemory> {
+        AppMaster::hear(self, alloc, &packet)
     }
 
     fn turn(self, alloc: Global) -> Result<(AppMaster, Packets), OutOfMemory> {

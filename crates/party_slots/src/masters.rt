@@ -13,41 +13,16 @@ ghost use Rattle.party_slots.specs.RunningMasters.{AreMastersOver, MasterStartIn
 use crate::party::Party;
 use crate::slots::Slots;
 use cluster_desc::Cluster;
+use core_side::Reply;
 use fuxi_io::Disk;
-use fuxi_master::{Master, MasterEvent, Outcome};
-use fuxi_terms::What;
+use fuxi_master::{Master, MasterEvent};
 use hard_state::Hard;
 use ledger_law::OutOfMemory;
-use party_ledgers::{Heard, Kind, Packet, Packets};
+use party_ledgers::{Kind, Packet, Packets};
 use party_orders::{Halt, MasterCommand};
 use schedule_text::Refusal;
 use std::alloc::Global;
 use written_parties::law;
-
-// As what a packet was heard. No other outcome comes to one.
-fn heard_of(outcome: Outcome) -> Heard
-    ensures { (heard : Heard) → outcome ≡ Outcome.Heard heard → result ≡ heard }
-{
-    match outcome {
-        Outcome::Heard(heard) => heard,
-        _ => Heard {
-            fresh: false,
-            what: What::Stranger,
-        },
-    }
-}
-
-// What a turn sends. No other outcome comes to one.
-fn sent_of(alloc: Global, outcome: Outcome) -> Packets
-    requires { IsSentFormed outcome }
-    ensures sent { (packets : List Packet) → outcome ≡ Outcome.Sent packets → result ≡ packets }
-    ensures formed { AllByRecursion IsSent result }
-{
-    match outcome {
-        Outcome::Sent(packets) => packets,
-        _ => Packets::new(alloc),
-    }
-}
 
 impl Party for Master {
     ghost use Rattle.party_slots.specs.RunningMasters.{MasterStands, master_steps};
@@ -56,18 +31,12 @@ impl Party for Master {
 
     ghost steps = { master_steps };
 
-    fn hear(self, alloc: Global, packet: Packet) -> Result<(Master, Heard), OutOfMemory> {
-        match self.step(alloc, MasterEvent::Packet(packet)) {
-            Ok((master, outcome)) => Ok((master, heard_of(outcome))),
-            Err(fault) => Err(fault),
-        }
+    fn hear(self, alloc: Global, packet: Packet) -> Result<(Master, Reply), OutOfMemory> {
+        Master::hear(self, alloc, packet)
     }
 
     fn turn(self, alloc: Global) -> Result<(Master, Packets), OutOfMemory> {
-        match self.step(alloc, MasterEvent::Turn) {
-            Ok((master, outcome)) => Ok((master, sent_of(alloc, outcome))),
-            Err(fault) => Err(fault),
-        }
+        Master::turn(self, alloc)
     }
 
     fn resync(self, alloc: Global) -> Result<Master, OutOfMemory> {

@@ -1,7 +1,8 @@
 //! What a slot holds.
 
+use core_side::Reply;
 use ledger_law::OutOfMemory;
-use party_ledgers::{Heard, Kind, Packet, Packets};
+use party_ledgers::{Kind, Packet, Packets};
 use std::alloc::Global;
 
 /// One party as it runs. What its calls do is said of every party of the definitions that it stands for. Each is at most one step, of
@@ -22,7 +23,7 @@ pub trait Party: Sized + Drop {
     ghost steps: { Self → ℕ };
 
     /// Hears a packet that is formed and no End.
-    fn hear(self, alloc: Global, packet: Packet) -> Result<(Self, Heard), OutOfMemory>
+    fn hear(self, alloc: Global, packet: Packet) -> Result<(Self, Reply), OutOfMemory>
         requires formed { IsFormed packet }
         requires no_end { packet.kind ≡ Kind.End → ⊥ }
         requires steps { steps self < most_steps }

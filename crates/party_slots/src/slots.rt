@@ -16,8 +16,9 @@ ghost use Rattle.party_slots.specs.PartyAnswers.{HearsAlike, SendsAlike};
 ghost use Rattle.party_slots.specs.Slots.{entry_at, slot_at, boot_at, ActsInSlot, IsSet, IsGone, IsTakenOut, AreOf, AreWithin, MayStep, HearInWorld, TurnInWorld, ResyncInWorld, StartInWorld};
 
 use crate::party::Party;
+use core_side::Reply;
 use ledger_law::OutOfMemory;
-use party_ledgers::{Heard, Kind, Packet, Packets};
+use party_ledgers::{Kind, Packet, Packets};
 use std::alloc::Global;
 use std::collections::BTreeMap;
 use std::collections::btree_map::Keys;
@@ -174,7 +175,7 @@ impl<P: Party> Slots<P> {
         alloc: Global,
         number: u64,
         packet: Packet,
-    ) -> Result<Option<Heard>, OutOfMemory>
+    ) -> Result<Option<Reply>, OutOfMemory>
         requires formed { IsFormed packet }
         requires no_end { packet.kind ≡ Kind.End → ⊥ }
         requires steps { MayStep P.steps (slot_at self.old number) }

@@ -9,8 +9,9 @@ use crate::law;
 use crate::running::Running;
 use crate::stop::WorldStop;
 use crate::text::{write_heard, write_kept, write_refusal};
+use core_side::Reply;
 use fuxi_terms::OutOfMemory;
-use party_ledgers::{Heard, Kind, Packet};
+use party_ledgers::{Kind, Packet};
 use schedule_text::Refusal;
 use schedule_unit::Role;
 use std::alloc::Global;
@@ -18,7 +19,7 @@ use wire_frames::read_packet;
 
 // A packet is heard by the party that it is for, if that runs: the master of the epoch that it names, the agent of its machine or the
 // application of its job.
-fn hear(running: &mut Running, alloc: Global, packet: Packet) -> Result<Option<Heard>, OutOfMemory>
+fn hear(running: &mut Running, alloc: Global, packet: Packet) -> Result<Option<Reply>, OutOfMemory>
     requires formed { IsFormed packet }
     requires no_end { packet.kind ≡ Kind.End → ⊥ }
     requires can { CanMove running.old }

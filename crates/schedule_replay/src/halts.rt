@@ -39,7 +39,7 @@ pub(crate) fn halt(
     masters: &mut Slots<Master>,
     line: &Event,
     stop: Stop,
-) -> Result<Output, OutOfMemory>
+) -> Result<Output<'static>, OutOfMemory>
     requires line { IsLineEvent (halting stop.calls stop.all line.now) }
     requires governed { AreGoverned (governing checkpoint.old masters.old) }
     ensures world { IfOk result (Halts cluster.now (event_as line.now) stop (governing checkpoint.old masters.old) (governing checkpoint.new masters.new)) }
@@ -63,7 +63,7 @@ fn halt_start(
     masters: &mut Slots<Master>,
     epoch: u64,
     stop: Stop,
-) -> Result<Output, OutOfMemory>
+) -> Result<Output<'static>, OutOfMemory>
     requires within { IsWithin stop }
     requires governed { AreGoverned (governing checkpoint.old masters.old) }
     ensures world { IfOk result (λ printed. (c : ClusterRecord) → Halts c (StartMaster epoch) stop (governing checkpoint.old masters.old) (governing checkpoint.new masters.new) printed) }
@@ -84,7 +84,7 @@ fn halt_command(
     epoch: u64,
     command: &MasterCommand,
     stop: Stop,
-) -> Result<Output, OutOfMemory>
+) -> Result<Output<'static>, OutOfMemory>
     requires named { IsNamed command.now }
     requires writes { has_writing (master_command command.now) ≡ true }
     requires within { IsWithin stop }
@@ -114,7 +114,7 @@ fn halt_within(
     epoch: u64,
     writing: &Writing,
     stop: Stop,
-) -> Result<Output, OutOfMemory>
+) -> Result<Output<'static>, OutOfMemory>
     requires writable { IsWritable writing.now }
     requires within { IsWithin stop }
     requires open { IsOpen checkpoint.old }

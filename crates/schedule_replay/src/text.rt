@@ -16,7 +16,8 @@ ghost use Rattle.party_ledgers.specs.declared.packets.Packet.{Packet as PacketSe
 
 use crate::law;
 use crate::stop::WorldStop;
-use party_ledgers::{Heard, Kind, Packet};
+use core_side::Reply;
+use party_ledgers::{Kind, Packet};
 use schedule_text::{Kind as PrintedKind, Output, Refusal, write_frame, write_output};
 use schedule_unit::MachineNo;
 use std::alloc::Global;
@@ -97,7 +98,7 @@ pub(crate) fn write_all_sent(
 // As what the packet of this number was heard, if by anybody.
 pub(crate) fn write_heard(
     number: u64,
-    heard: Option<Heard>,
+    heard: Option<Reply>,
     out: &mut Vec<u8>,
 ) -> Result<(), WorldStop>
     ensures ok { OnOk result (out.new.items ≡ out.old.items ++ lines_text (heard_lines number heard)) }
@@ -105,7 +106,7 @@ pub(crate) fn write_heard(
 {
     match heard {
         None => write_line(&Output::Lost(number), out),
-        Some(heard) => write_line(&Output::Heard(number, heard.fresh, heard.what), out),
+        Some(heard) => write_line(&Output::Heard(number, heard.fresh(), heard.what()), out),
     }
 }
 

@@ -59,7 +59,7 @@ as_refusal (why.MostRange unit) = MostRange unit.0
 
 abbrev pub as_line : Output → Line
 as_line (out.Sent number from to kind inc seq bytes) = Sent number (record { from = as_party from; to = as_party to; kind = as_kind kind; inc = inc; seq = seq }) bytes
-as_line (out.Heard number fresh what) = Came number fresh what
+as_line (out.Heard number fresh what) = Came number fresh what.now
 as_line (out.Lost number) = Lost number
 as_line (out.Halted epoch written) = Halted epoch written
 as_line (out.Refused refusal) = Refused (as_refusal refusal)

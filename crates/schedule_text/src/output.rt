@@ -26,7 +26,7 @@ pub enum Kind {
 
 /// A line that is printed. Packets count from 1, and a place is an incarnation and an index.
 #[derive(Clone, Copy, Drop)]
-pub enum Output {
+pub enum Output<'a> {
     /// A packet of a turn, and the length of its frame in bytes.
     Sent {
         /// Its number, from 1 on.
@@ -45,7 +45,7 @@ pub enum Output {
         bytes: u64,
     },
     /// A packet that was heard, whether its sender is a new incarnation, and as what.
-    Heard(u64, bool, What),
+    Heard(u64, bool, &'a What),
     /// A packet that was delivered where nobody runs.
     Lost(u64),
     /// A master that stopped within a writing, and whether that is written.

@@ -23,12 +23,15 @@ pub returns-clause-hears : goal.returns-clause-hears
 returns-clause-hears g c =
     let old = c.args.self.now in
     let mid = c.meet-fresh.new.self in
+    let new = c.take_whole.new.self in
+    let what = c.in_ok-what.what in
     let excess = g.L.Limit.excess c.args.limit.now in
     let late : nat_lt c.args.packet.from.inc old.incoming.place.inc ≡ false = search rules in
     let known = met_known g.B.Ledger.nothing c.args.packet.from.inc old.incoming mid.incoming c.meet-fresh.result c.meet-fresh.ensures.meets late in
     let taken : c.judge-verdict.result ≡ Take = search rules in
     let words = subst (λ v. SaysWord g.A.Ledger.nothing g.A.Ledger.patched g.A.Ledger.has_form g.A.Carried.stated g.B.Carried.stated c.args.packet mid (told_as v)) taken c.judge-verdict.ensures.word in
     let kind : c.args.packet.kind ≡ Full = search rules in
-    let takes = subst (λ p. Takes (excess (g.B.Carried.stated c.whole_of.result)) p c.whole_of.result mid c.take_whole-what.new.self c.take_whole-what.result) (ap (λ s. s.place) c.stamp_of-stamp.ensures) c.take_whole-what.ensures.takes in
-    met_alike g.A.Ledger.nothing g.A.Ledger.patched g.A.Ledger.has_form g.A.Carried.stated g.B.Carried.stated old excess c.args.packet mid c.take_whole-what.new.self g.B.Ledger.nothing c.meet-fresh.result c.take_whole-what.result c.meet-fresh.ensures.meets c.meet-fresh.ensures.rest g.met.B.Carried.empty_is
-    (whole_alike g.A.Ledger.nothing g.A.Ledger.patched g.A.Ledger.has_form g.A.Carried.stated g.B.Carried.stated mid excess c.args.packet known g.B.Carried.whole g.met.B.Carried.whole_makes c.requires.formed kind c.whole_of.result (c.whole_of.ensures) words c.take_whole-what.new.self c.take_whole-what.result takes)
+    let takes = subst (λ p. Takes (excess (g.B.Carried.stated c.whole_of-ledger.result)) p c.whole_of-ledger.result mid new what) (ap (λ s. s.place) c.stamp_of-stamp.ensures) c.in_ok-what.ensures.takes in
+    subst (HearsAlike g.A.Ledger.nothing g.A.Ledger.patched g.A.Ledger.has_form g.A.Carried.stated g.B.Carried.stated excess c.args.packet old new) (sym c.make.ensures)
+    (met_alike g.A.Ledger.nothing g.A.Ledger.patched g.A.Ledger.has_form g.A.Carried.stated g.B.Carried.stated old excess c.args.packet mid new g.B.Ledger.nothing c.meet-fresh.result what c.meet-fresh.ensures.meets c.meet-fresh.ensures.rest g.met.B.Carried.empty_is
+    (whole_alike g.A.Ledger.nothing g.A.Ledger.patched g.A.Ledger.has_form g.A.Carried.stated g.B.Carried.stated mid excess c.args.packet known g.B.Carried.whole g.met.B.Carried.whole_makes c.requires.formed kind c.whole_of-ledger.result (c.whole_of-ledger.ensures) words new what takes))

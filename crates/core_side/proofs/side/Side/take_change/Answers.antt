@@ -35,6 +35,7 @@ returns-clause-hears g c words =
     let received : c.got.result.now ≡ c.args.self.now.incoming.received = c.got.ensures.received ∙ ap (λ e. e.incoming.received) c.self.view_is in
     let made : g.B.Ledger.patched c.args.self.now.incoming.received c.change_in-change.result.now ≡ Ok new.incoming.received = subst (λ e. g.B.Ledger.patched e.incoming.received c.change_in-change.result.now ≡ Ok new.incoming.received) c.self.view_is done.takes.made in
     let fits = (c.in-Ok.ensures new.incoming.received (ap (λ v. g.B.Ledger.patched v c.change_in-change.result.now) received ∙ made)).0 in
-    change_alike g.A.Ledger.nothing g.A.Ledger.patched g.A.Ledger.has_form g.A.Carried.stated g.B.Carried.stated c.args.self.now (g.L.Limit.excess c.args.limit.now) c.args.packet.now c.requires.known
+    subst (λ w. HearsAlike g.A.Ledger.nothing g.A.Ledger.patched g.A.Ledger.has_form g.A.Carried.stated g.B.Carried.stated (g.L.Limit.excess c.args.limit.now) c.args.packet.now c.args.self.now new (record { fresh = false; what = w })) (sym c.taken.ensures)
+    (change_alike g.A.Ledger.nothing g.A.Ledger.patched g.A.Ledger.has_form g.A.Carried.stated g.B.Carried.stated c.args.self.now (g.L.Limit.excess c.args.limit.now) c.args.packet.now c.requires.known
     g.B.Ledger.patched g.B.Carried.changed g.B.Carried.from_role g.met.B.Carried.change_makes c.requires.formed c.requires.from c.change_in-change.result.now c.change_in-change.ensures.change words
-    new made fits c.requires.kind (ap (λ e. e.outgoing) done.rest ∙ ap (λ e. e.outgoing) c.self.view_is) (done.takes.place ∙ ap (λ s. s.place) c.requires.stamp) (ap (λ e. e.acked) done.rest ∙ ap (λ e. e.acked) c.self.view_is)
+    new made fits c.requires.kind (ap (λ e. e.outgoing) done.rest ∙ ap (λ e. e.outgoing) c.self.view_is) (done.takes.place ∙ ap (λ s. s.place) c.requires.stamp) (ap (λ e. e.acked) done.rest ∙ ap (λ e. e.acked) c.self.view_is))

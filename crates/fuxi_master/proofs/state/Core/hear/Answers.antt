@@ -1,8 +1,9 @@
-use Rattle.std.proofs.Common.{rules, inl, inr, ◌≡◌, ◌≤◌, length, false, ap, sym, ◌∙◌}
+use Rattle.std.proofs.Common.{rules, inl, inr, ◌≡◌, ◌≤◌, length, false, ap, subst, sym, ◌∙◌}
 use Rattle.fuxi_terms.specs.Jobs.{is_known}
 use Rattle.written_roles.specs.MasterSteps.{talks}
 use Rattle.core_side.specs.Parcels.{id_of}
 use Rattle.fuxi_master.specs.Seen.{core_of}
+use Rattle.fuxi_master.specs.Steps.{HearsRole}
 use Rattle.fuxi_master.proofs.StepsLemmas.{wider, stranger_hears, agent_unknown, app_unknown}
 use Rattle.fuxi_master.proofs.state.Core.hear.Goals as goal
 
@@ -13,7 +14,7 @@ returns-then-not-is_for_master c =
     record {
       core = c.requires.core;
       within = wider c.args.steps x c.requires.within;
-      hears = λ r h. stranger_hears c.step_ends.ensures c.strangers_change_nothing.ensures x c.requires.core c.args.packet (inl (sym c.is_for_master.ensures ∙ off)) r h;
+      hears = λ r h. subst (λ heard. HearsRole c.args.packet x heard r) (sym c.stranger.ensures) (stranger_hears c.step_ends.ensures c.strangers_change_nothing.ensures x c.requires.core c.args.packet (inl (sym c.is_for_master.ensures ∙ off)) r h);
     }
 
 pub returns-then-packet-machines : goal.returns-then-packet-machines
@@ -24,8 +25,8 @@ returns-then-packet-machines c =
     record {
       core = c.requires.core;
       within = wider c.args.steps x c.requires.within;
-      hears = λ r h. stranger_hears c.step_ends.ensures c.strangers_change_nothing.ensures x c.requires.core c.args.packet
-          (inr (λ r h. ap (λ q. talks r.cluster r.state (id_of q a)) c.in-Agent.is ∙ agent_unknown x r h a ge)) r h;
+      hears = λ r h. subst (λ heard. HearsRole c.args.packet x heard r) (sym c.stranger-then-packet-machines.ensures) (stranger_hears c.step_ends.ensures c.strangers_change_nothing.ensures x c.requires.core c.args.packet
+          (inr (λ r h. ap (λ q. talks r.cluster r.state (id_of q a)) c.in-Agent.is ∙ agent_unknown x r h a ge)) r h);
     }
 
 pub returns-then-is_none : goal.returns-then-is_none
@@ -36,6 +37,6 @@ returns-then-is_none c =
     record {
       core = c.requires.core;
       within = wider c.args.steps x c.requires.within;
-      hears = λ r h. stranger_hears c.step_ends.ensures c.strangers_change_nothing.ensures x c.requires.core c.args.packet
-          (inr (λ r h. ap (λ q. talks r.cluster r.state (id_of q a)) c.in-App.is ∙ app_unknown x r h a unknown)) r h;
+      hears = λ r h. subst (λ heard. HearsRole c.args.packet x heard r) (sym c.stranger-then-is_none.ensures) (stranger_hears c.step_ends.ensures c.strangers_change_nothing.ensures x c.requires.core c.args.packet
+          (inr (λ r h. ap (λ q. talks r.cluster r.state (id_of q a)) c.in-App.is ∙ app_unknown x r h a unknown)) r h);
     }

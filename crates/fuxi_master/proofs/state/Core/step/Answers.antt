@@ -2,6 +2,7 @@ use Rattle.std.proofs.Common.{refl, sym, subst}
 use Rattle.fuxi_master.specs.Seen.{core_of}
 use Rattle.fuxi_master.specs.Steps.{IsStep}
 use Rattle.fuxi_master.specs.declared.event.MasterEvent.{MasterEvent}
+use Rattle.fuxi_master.specs.declared.event.MasterEvent.TheVariants.{Packet as PacketComes}
 use Rattle.fuxi_master.specs.declared.event.Outcome.TheVariants.{Done, Sent, Heard as HeardOne}
 use Rattle.fuxi_master.proofs.StepsLemmas.{wider}
 use Rattle.fuxi_master.proofs.AnswersAlike.{heard_one, sent_all, sent_one}
@@ -12,7 +13,9 @@ returns-in_ok-heard-in-Packet c =
     let x = core_of c.args.self.now in
     let y = core_of c.hear.new.self in
     let heard = c.in_ok-heard-in-Packet.heard in
-    subst (λ (event : MasterEvent). IsStep event c.args.steps x y (HeardOne heard)) (sym c.in-Packet.is) (heard_one c.in-Packet.packet c.args.steps x y heard c.in_ok-heard-in-Packet.ensures)
+    let one = heard_one c.in-Packet.packet c.args.steps x y heard c.in_ok-heard-in-Packet.ensures in
+    let told = subst (λ h. IsStep (PacketComes c.in-Packet.packet) c.args.steps x y (HeardOne h)) (sym c.heard-in-Packet.ensures) one in
+    subst (λ (event : MasterEvent). IsStep event c.args.steps x y (HeardOne c.heard-in-Packet.result)) (sym c.in-Packet.is) told
 
 pub unreachable-requires : goal.unreachable-requires
 unreachable-requires c = c.requires.other c.in-Admit.field-0 c.in-Admit.is

@@ -1,27 +1,42 @@
-use Rattle.std.proofs.Common.{ℕ, Some, true, set, sym, ap, subst, ◌∙◌}
+use Rattle.std.proofs.Common.{◌≡◌, ◌<◌, ℕ, Some, true, [], length, get_or, set, sym, ap, subst, ◌∙◌}
+use Rattle.slot_pool.specs.declared.pool.Slot.{Slot}
 use Rattle.slot_pool.specs.Pools.{value_at}
-use Rattle.locality_tree.specs.Layouts.{Slots, slots_of, with_slot, AreKept, Turned, IsNoted}
+use Rattle.locality_tree.specs.Layouts.{Slots, Places, numbers_of, slots_seen, slots_of, with_slot, number_of, AreKept, Turned, IsNoted}
 use Rattle.locality_tree.proofs.LayoutsLemmas.{may_enter, kept_entered, turned_entered}
+use Rattle.locality_tree.proofs.NumbersLemmas.{fits_number, noted_again}
+use Rattle.locality_tree.proofs.QueueLaws.{same_slot}
+use Rattle.locality_tree.proofs.layout.Layout.enter.Goals.{After-note_unit}
 use Rattle.locality_tree.proofs.layout.Layout.enter.Goals as goal
 
 pub insert-slot-requires-clause-enters : goal.insert-slot-requires-clause-enters
 insert-slot-requires-clause-enters c =
     let l = c.args.self.now in
-    may_enter c.standing_lists.ensures.entries (value_at l.pool) l.queues.items (slots_of l.slots.items) l.sets.items c.args.place c.index_mut-queue.result.now c.args.entry.now l.pool.spare c.requires.kept c.requires.fits c.index_mut-queue.ensures.value c.requires.outside
+    may_enter c.standing_lists.ensures.entries (value_at l.pool) l.queues.items (slots_of l) l.sets.items c.args.place c.index_mut-queue.result.now c.args.entry.now l.pool.spare c.requires.kept c.requires.fits c.index_mut-queue.ensures.value c.requires.outside
+
+kept : (c : After-note_unit) → AreKept (value_at c.insert-slot.new.pool) c.insert-slot.new.pool.spare (set c.args.self.now.queues.items c.args.place c.insert-slot.new.self) (with_slot (slots_of c.args.self.now) (number_of c.args.entry.now) c.args.place (Some c.insert-slot.result)) c.note_unit.new.sets.items
+kept c =
+    let l = c.args.self.now in
+    let marked = subst (λ (k : ℕ). IsNoted l.sets.items c.note_unit.new.sets.items c.args.place k true) c.number_of-number.ensures c.note_unit.ensures in
+    kept_entered c.standing_lists.ensures.entries (value_at l.pool) l.queues.items (slots_of l) l.sets.items c.args.place c.index_mut-queue.result.now c.args.entry.now l.pool.spare c.requires.kept c.requires.fits c.index_mut-queue.ensures.value (value_at c.insert-slot.new.pool) c.insert-slot.new.self c.note_unit.new.sets.items c.insert-slot.new.pool.spare c.insert-slot.ensures.others c.insert-slot.ensures.order (c.standing_lists.ensures.one l.pool c.index_mut-queue.result.now) c.places.ensures c.requires.outside c.insert-slot.result c.insert-slot.ensures.placed c.standing_lists.ensures.absent c.insert-slot.ensures.absent c.insert-slot.ensures.spare marked
+
+noted : (c : After-note_unit) → slots_seen c.insert-slot.new.pool c.note_unit.new.sets.items (numbers_of c.note_slot.new.slots.items) ≡ with_slot (slots_of c.args.self.now) (number_of c.args.entry.now) c.args.place (Some c.insert-slot.result)
+noted c =
+    let l = c.args.self.now in
+    let n : ℕ = number_of c.args.entry.now in
+    let rows : Places ℕ = numbers_of l.slots.items in
+    let marked = subst (λ (k : ℕ). IsNoted l.sets.items c.note_unit.new.sets.items c.args.place k true) c.number_of-number.ensures c.note_unit.ensures in
+    ap (slots_seen c.insert-slot.new.pool c.note_unit.new.sets.items) (c.note_slot.ensures ∙ ap (λ (k : ℕ). with_slot rows k c.args.place c.insert-slot.result.number) c.number_of-number.ensures)
+    ∙ noted_again l.pool c.insert-slot.new.pool l.sets.items c.note_unit.new.sets.items rows n c.args.place c.insert-slot.result.number (Some c.insert-slot.result) (fits_number c.args.self.now c.args.entry.now c.args.place c.requires.fits) marked (λ s e. ap (λ (t : Slot). t.number) (same_slot c.insert-slot.result s e)) c.standing_lists.ensures.entries c.insert-slot.new.pool.spare (set l.queues.items c.args.place c.insert-slot.new.self) (kept c)
+
+pub note_slot-requires : goal.note_slot-requires
+note_slot-requires c = subst (λ (k : ℕ). c.args.place < length (get_or (numbers_of c.args.self.now.slots.items) k [])) (sym c.number_of-number.ensures) (fits_number c.args.self.now c.args.entry.now c.args.place c.requires.fits)
 
 pub returns-clause-kept : goal.returns-clause-kept
 returns-clause-kept c =
-    let l = c.args.self.now in
-    let slots : Slots = slots_of l.slots.items in
-    let noted = c.note_slot.ensures ∙ ap (λ (k : ℕ). with_slot slots k c.args.place (Some c.insert-slot.result)) c.number_of-number.ensures in
-    let marked = subst (λ (k : ℕ). IsNoted l.sets.items c.note_unit.new.sets.items c.args.place k true) c.number_of-number.ensures c.note_unit.ensures in
-    subst (λ (s : Slots). AreKept (value_at c.insert-slot.new.pool) c.insert-slot.new.pool.spare (set l.queues.items c.args.place c.insert-slot.new.self) s c.note_unit.new.sets.items) (sym noted)
-    (kept_entered c.standing_lists.ensures.entries (value_at l.pool) l.queues.items slots l.sets.items c.args.place c.index_mut-queue.result.now c.args.entry.now l.pool.spare c.requires.kept c.requires.fits c.index_mut-queue.ensures.value (value_at c.insert-slot.new.pool) c.insert-slot.new.self c.note_unit.new.sets.items c.insert-slot.new.pool.spare c.insert-slot.ensures.others c.insert-slot.ensures.order (c.standing_lists.ensures.one l.pool c.index_mut-queue.result.now) c.places.ensures c.requires.outside c.insert-slot.result c.insert-slot.ensures.placed c.standing_lists.ensures.absent c.insert-slot.ensures.absent c.insert-slot.ensures.spare marked)
+    subst (λ (s : Slots). AreKept (value_at c.insert-slot.new.pool) c.insert-slot.new.pool.spare (set c.args.self.now.queues.items c.args.place c.insert-slot.new.self) s c.note_unit.new.sets.items) (sym (noted c)) (kept c)
 
 pub returns-clause-turned : goal.returns-clause-turned
 returns-clause-turned c =
     let l = c.args.self.now in
-    let slots : Slots = slots_of l.slots.items in
-    let noted = c.note_slot.ensures ∙ ap (λ (k : ℕ). with_slot slots k c.args.place (Some c.insert-slot.result)) c.number_of-number.ensures in
-    subst (λ (s : Slots). Turned (value_at l.pool) slots (value_at c.insert-slot.new.pool) s c.args.entry.now c.args.place true) (sym noted)
-    (turned_entered c.standing_lists.ensures.entries (value_at l.pool) l.queues.items slots l.sets.items c.args.place c.index_mut-queue.result.now c.args.entry.now l.pool.spare c.requires.kept c.requires.fits c.index_mut-queue.ensures.value (value_at c.insert-slot.new.pool) c.insert-slot.new.self c.note_unit.new.sets.items c.insert-slot.new.pool.spare c.insert-slot.ensures.others c.insert-slot.ensures.order (c.standing_lists.ensures.one l.pool c.index_mut-queue.result.now) c.places.ensures c.requires.outside c.insert-slot.result c.insert-slot.ensures.placed)
+    subst (λ (s : Slots). Turned (value_at l.pool) (slots_of l) (value_at c.insert-slot.new.pool) s c.args.entry.now c.args.place true) (sym (noted c))
+    (turned_entered c.standing_lists.ensures.entries (value_at l.pool) l.queues.items (slots_of l) l.sets.items c.args.place c.index_mut-queue.result.now c.args.entry.now l.pool.spare c.requires.kept c.requires.fits c.index_mut-queue.ensures.value (value_at c.insert-slot.new.pool) c.insert-slot.new.self c.note_unit.new.sets.items c.insert-slot.new.pool.spare c.insert-slot.ensures.others c.insert-slot.ensures.order (c.standing_lists.ensures.one l.pool c.index_mut-queue.result.now) c.places.ensures c.requires.outside c.insert-slot.result c.insert-slot.ensures.placed)

@@ -1,11 +1,11 @@
 use Rattle.std.proofs.Common.{◌≡◌, ◌+◌, ◌*◌, ◌<◌, ◌≤◌, ℕ, List, false, length, get_or, [], sym, subst, ap, ◌∙◌, inl, inr, arith}
-use Rattle.std.proofs.lemmas.List.{length-map}
 use Rattle.std.specs.Prelude.{IsTrue}
 use Rattle.fuxi_terms.specs.Cluster.{JobRecord, is_valid_job}
 use Rattle.locality_tree.specs.declared.layout.Layout.{Layout}
 use Rattle.locality_tree.specs.Trees.{TreeRecord, is_admitted, with_idle, with_job, place_count}
 use Rattle.locality_tree.specs.Layouts.{slots_of, states_in, tree_record, IsTree, Admits}
 use Rattle.locality_tree.proofs.ClusterLemmas.{small_job}
+use Rattle.locality_tree.proofs.NumbersLemmas.{slots_count}
 use Rattle.locality_tree.proofs.VacantLemmas.{units_are}
 use Rattle.locality_tree.proofs.TreesLemmas.{not_admitted, tree_admitted, admitted_view, ok_or_err, on_ok}
 use Rattle.locality_tree.proofs.tree.Tree.admit.Goals as goal
@@ -17,11 +17,11 @@ inside racks l t j valid a units number count =
     let all = t.unit_count ∙ units_are in
     omega (arith, job.0, job.1, number, count, all)
 
-new : (racks : List ℕ) (l : Layout) (j : JobRecord) → IsTrue (is_valid_job 8 j) → (a units : ℕ) → a ≡ j.number → units ≡ length j.units → ((u : ℕ) → u < 8 → is_admitted (tree_record racks l) j.number u ≡ false) → (k : ℕ) → k < units → length (get_or (slots_of l.slots.items) (8 * a + k) []) ≡ 0
+new : (racks : List ℕ) (l : Layout) (j : JobRecord) → IsTrue (is_valid_job 8 j) → (a units : ℕ) → a ≡ j.number → units ≡ length j.units → ((u : ℕ) → u < 8 → is_admitted (tree_record racks l) j.number u ≡ false) → (k : ℕ) → k < units → length (get_or (slots_of l) (8 * a + k) []) ≡ 0
 new racks l j valid a units number count none k h =
     let job = small_job j valid in
     let few : k < 8 = omega (arith, job.1, count, h) in
-    subst (λ (n : ℕ). length (get_or (slots_of l.slots.items) (8 * n + k) []) ≡ 0) (sym number) (not_admitted racks l j.number k (none k few))
+    subst (λ (n : ℕ). length (get_or (slots_of l) (8 * n + k) []) ≡ 0) (sym number) (not_admitted racks l j.number k (none k few))
 
 pub admit-requires-clause-inside : goal.admit-requires-clause-inside
 admit-requires-clause-inside c = inside c.self.inside.racks.items c.self.inside.layout c.self.invariant c.args.job.now c.app.ensures.valid c.app.result.0 c.units.result c.app.ensures.number c.units.ensures.number
@@ -37,7 +37,7 @@ invariant_of-self c =
     let l = c.self.inside.layout in
     let j = c.args.job.now in
     let none : (u : ℕ) → u < 8 → is_admitted (tree_record racks l) j.number u ≡ false = λ u h. subst (λ (t : TreeRecord). is_admitted t j.number u ≡ false) (sym c.self.view_is) (c.requires u h) in
-    let long : 8 * c.app.result.0 + c.units.result ≤ length (slots_of l.slots.items) = let m = length-map l.slots.items (λ v. v.items) in let i = inside racks l c.self.invariant j c.app.ensures.valid c.app.result.0 c.units.result c.app.ensures.number c.units.ensures.number in omega (arith, m, i) in
+    let long : 8 * c.app.result.0 + c.units.result ≤ length (slots_of l) = let m = slots_count l in let i = inside racks l c.self.invariant j c.app.ensures.valid c.app.result.0 c.units.result c.app.ensures.number c.units.ensures.number in omega (arith, m, i) in
     elim (ok_or_err c.admit.result (Admits l c.admit.new.self (8 * c.app.result.0) c.units.result) (c.admit.new.self ≡ l) c.admit.ensures.ok c.admit.ensures.err) as (λ _. IsTree racks c.admit.new.self) [
       | inl a ↦ tree_admitted racks l c.admit.new.self (8 * c.app.result.0) c.units.result c.self.invariant a long (new racks l j c.app.ensures.valid c.app.result.0 c.units.result c.app.ensures.number c.units.ensures.number none)
       | inr e ↦ subst (λ (x : Layout). IsTree racks x) (sym e) c.self.invariant
@@ -49,7 +49,7 @@ returns-clause-ok c =
     let l = c.self.inside.layout in
     let j = c.args.job.now in
     let none : (u : ℕ) → u < 8 → is_admitted (tree_record racks l) j.number u ≡ false = λ u h. subst (λ (t : TreeRecord). is_admitted t j.number u ≡ false) (sym c.self.view_is) (c.requires u h) in
-    let long : 8 * c.app.result.0 + c.units.result ≤ length (slots_of l.slots.items) = let m = length-map l.slots.items (λ v. v.items) in let i = inside racks l c.self.invariant j c.app.ensures.valid c.app.result.0 c.units.result c.app.ensures.number c.units.ensures.number in omega (arith, m, i) in
+    let long : 8 * c.app.result.0 + c.units.result ≤ length (slots_of l) = let m = slots_count l in let i = inside racks l c.self.invariant j c.app.ensures.valid c.app.result.0 c.units.result c.app.ensures.number c.units.ensures.number in omega (arith, m, i) in
     on_ok c.admit.result (Admits l c.admit.new.self (8 * c.app.result.0) c.units.result) (tree_record racks c.admit.new.self ≡ with_job c.args.self.now j)
     (λ a. admitted_view racks l c.admit.new.self (8 * c.app.result.0) c.units.result c.self.invariant a long (new racks l j c.app.ensures.valid c.app.result.0 c.units.result c.app.ensures.number c.units.ensures.number none)
     ∙ ap (λ (n : ℕ). with_first racks l n c.units.result) c.app.ensures.number ∙ ap (with_first racks l j.number) c.units.ensures.number
