@@ -20,7 +20,7 @@ use std::cmp::Ordering;
 pub use vectors::{Res, Sum};
 
 /// What an entry of a ledger is about: its kind, a unit and a number, as of a machine or a rack.
-#[derive(Clone, Copy, Debug, PartialEq, Eq, PartialOrd, Ord)]
+#[derive(Clone, Copy, Debug, Default, PartialEq, Eq, PartialOrd, Ord)]
 pub struct Key {
     pub what: u8,
     pub unit: u8,

@@ -12,6 +12,7 @@ ghost use Rattle.ledger_law.specs.Shapes.{kept_under, AreChangesWithin, IsChange
 use crate::entries::{count_at, count_of, keys_rise, moved, place_of, set_entry};
 use crate::forms::{Changes, Numbers, read_headed, write_headed};
 use crate::ledger::{BodyFault, Key, Ledger, LedgerFault, OutOfMemory};
+use smallvec::SmallVec;
 use std::alloc::Global;
 use std::marker::{Model, PhantomData};
 
@@ -64,7 +65,8 @@ impl<S: Shape> Model for Tally<S> {
 #[derive(Drop)]
 pub struct Change {
     head: u64,
-    entries: Vec<(Key, i64)>,
+    /// One entry, as most changes have, needs no memory of its own.
+    entries: SmallVec<(Key, i64), 1>,
 }
 
 impl Model for Change {
@@ -86,7 +88,7 @@ impl Change {
     {
         Change {
             head,
-            entries: Vec::new(alloc),
+            entries: SmallVec::new(alloc),
         }
     }
 
@@ -397,7 +399,7 @@ impl<S: Shape> Ledger for Tally<S> {
     fn copy_delta(alloc: Global, change: &Change) -> Result<Change, OutOfMemory> {
         Ok(Change {
             head: change.head,
-            entries: Vec::from_slice(alloc, &change.entries)?,
+            entries: SmallVec::from_slice(alloc, &change.entries)?,
         })
     }
 
@@ -426,6 +428,9 @@ impl<S: Shape> Ledger for Tally<S> {
         if !are_changes::<S>(&entries) {
             return Err(BodyFault::NotBody);
         }
-        Ok(Change { head, entries })
+        Ok(Change {
+            head,
+            entries: SmallVec::from_vec(entries),
+        })
     }
 }
