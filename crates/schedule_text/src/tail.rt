@@ -1,6 +1,6 @@
 //! A line that is put together from its end, so that it goes behind others at once.
 
-ghost use Rattle.std.specs.Prelude.{◌≡◌, ◌+◌, ◌≤◌, ◌++◌, ◌∷◌, [], length, decimal};
+ghost use Rattle.std.specs.Prelude.{◌≡◌, ◌+◌, ◌/◌, ◌%◌, ◌<◌, ◌≤◌, ◌++◌, ◌∷◌, [], length, decimal};
 
 use std::marker::Model;
 
@@ -64,16 +64,33 @@ impl Tail {
         self.bytes[self.from..end].copy_from_slice(word);
     }
 
-    /// A number in front.
+    // The two digits of a number in front.
+    fn put_pair(&mut self, number: u8)
+        requires room { length self.old + 2 ≤ 256 }
+        requires small { number < 100 }
+        ensures is { self.new ≡ (48 + number / 10) ∷ (48 + number % 10) ∷ self.old }
+        ensures long { length self.new ≡ length self.old + 2 }
+    {
+        let from = self.from - 2;
+        self.bytes[from] = b'0' + number / 10;
+        self.bytes[from + 1] = b'0' + number % 10;
+        self.from = from;
+    }
+
+    /// A number in front, two digits at a time.
     pub(crate) fn put_number(&mut self, number: u64)
         requires room { length self.old + 20 ≤ 256 }
         ensures is { self.new ≡ decimal number ++ self.old }
         ensures short { length self.new ≤ length self.old + 20 }
     {
         let mut left = number;
-        while left >= 10 {
-            self.put(b'0' + (left % 10) as u8);
-            left /= 10;
+        while left >= 100 {
+            self.put_pair((left % 100) as u8);
+            left /= 100;
+        }
+        if left >= 10 {
+            self.put_pair(left as u8);
+            return;
         }
         self.put(b'0' + left as u8);
     }
