@@ -11,8 +11,8 @@ use Rattle.wait_queue.specs.declared.node.Entry.{Entry}
 use Rattle.wait_queue.specs.declared.node.Node.{Node}
 use Rattle.wait_queue.specs.declared.queue.Queue.{Queue}
 use Rattle.wait_queue.specs.Queues.{Item, Stands, IsIn, MayEnter, HasPlace, IsPlace, Apart, entry_at}
-use Rattle.locality_tree.specs.declared.number_set.NumberSet.{NumberSet}
-use Rattle.locality_tree.specs.NumberSets.{in_set, no_set}
+use Rattle.locality_tree.specs.declared.place_set.PlaceSet.{PlaceSet}
+use Rattle.locality_tree.specs.PlaceSets.{is_marked}
 use Rattle.locality_tree.specs.Layouts.{Places, Slots, slot_in, with_slot, number_of, HasNumber, vacancies, entry_in, AreApart, IsQueueAt, AreKept, EntryFits, Turned, IsNoted}
 use Rattle.locality_tree.proofs.MembersLemmas.{in_here, in_wider, in_middle, Parted, parted, all_from}
 use Rattle.locality_tree.proofs.QueueLaws.{Entries, Distinct, Absent, HavePlaces, member_entry, not_outside, are_apart, same_entry, same_slot, none_some}
@@ -65,12 +65,12 @@ some_inside [] k s e = absurd (none_some (get_or [] k None) s refl e)
 some_inside (o ∷ os) zero s e = omega arith
 some_inside (o ∷ os) (suc k) s e = omega (arith, some_inside os k s e)
 
-pub slot_queued : (at : Slot → Option Node) (spare : ℕ) (queues : List Queue) (slots : Slots) (sets : List NumberSet) (kept : AreKept at spare queues slots sets) (n k : ℕ) (s : Slot) → slot_in slots n k ≡ Some s → k < length queues
+pub slot_queued : (at : Slot → Option Node) (spare : ℕ) (queues : List Queue) (slots : Slots) (sets : List PlaceSet) (kept : AreKept at spare queues slots sets) (n k : ℕ) (s : Slot) → slot_in slots n k ≡ Some s → k < length queues
 slot_queued at spare queues slots sets kept n k s e =
     let within = some_inside (get_or slots n []) k s e in
     elim (kept.full n) as (λ _. k < length queues) [ inl z ↦ absurd (omega (arith, within, z)) | inr z ↦ omega (arith, within, z) ]
 
-pub entry_queued : (at : Slot → Option Node) (spare : ℕ) (queues : List Queue) (slots : Slots) (sets : List NumberSet) (kept : AreKept at spare queues slots sets) (n k : ℕ) (e : Entry) → entry_in at (slot_in slots n k) ≡ Some e → k < length queues
+pub entry_queued : (at : Slot → Option Node) (spare : ℕ) (queues : List Queue) (slots : Slots) (sets : List PlaceSet) (kept : AreKept at spare queues slots sets) (n k : ℕ) (e : Entry) → entry_in at (slot_in slots n k) ≡ Some e → k < length queues
 entry_queued at spare queues slots sets kept n k e h = by (slot_in slots n k) refl h
   where
     by : (o : Option Slot) → slot_in slots n k ≡ o → entry_in at o ≡ Some e → k < length queues
@@ -84,7 +84,7 @@ pub record Listed (at : Slot → Option Node) (slots : Slots) (items : List Item
   pub among : In (slot, e) items
   pub number : number_of e ≡ n
 
-pub listed : Entries → (at : Slot → Option Node) (spare : ℕ) (queues : List Queue) (slots : Slots) (sets : List NumberSet) (kept : AreKept at spare queues slots sets) (n k : ℕ) (e : Entry) → entry_in at (slot_in slots n k) ≡ Some e → Listed at slots (kept.lists k) n k e
+pub listed : Entries → (at : Slot → Option Node) (spare : ℕ) (queues : List Queue) (slots : Slots) (sets : List PlaceSet) (kept : AreKept at spare queues slots sets) (n k : ℕ) (e : Entry) → entry_in at (slot_in slots n k) ≡ Some e → Listed at slots (kept.lists k) n k e
 listed law at spare queues slots sets kept n k e h = by (slot_in slots n k) refl h
   where
     by : (o : Option Slot) → slot_in slots n k ≡ o → entry_in at o ≡ Some e → Listed at slots (kept.lists k) n k e
@@ -100,13 +100,13 @@ listed law at spare queues slots sets kept n k e h = by (slot_in slots n k) refl
 abbrev pub with_list : (ℕ → List Item) → ℕ → List Item → ℕ → List Item
 with_list lists place items p = cond (nat_eq p place) items (lists p)
 
-module _ (at0 at3 : Slot → Option Node) (queues : List Queue) (slots : Slots) (sets news : List NumberSet) (n place : ℕ) (q : Queue) (x : Option Slot) (items : List Item) (spare after : ℕ) (kept : AreKept at0 spare queues slots sets)
+module _ (at0 at3 : Slot → Option Node) (queues : List Queue) (slots : Slots) (sets news : List PlaceSet) (n place : ℕ) (q : Queue) (x : Option Slot) (items : List Item) (spare after : ℕ) (kept : AreKept at0 spare queues slots sets)
     (inside : place < length (get_or slots n [])) (queued : place < length queues)
     (here : IsQueueAt at3 q (with_slot slots n place x) place items)
     (others : (p : ℕ) → p ≢ place → p < length queues → (d : Queue) → Stands at3 (get_or queues p d) (kept.lists p))
     (apart : (p : ℕ) → p ≢ place → p < length queues → AreApart items (kept.lists p))
     (room : vacancies (with_slot slots n place x) ≤ after)
-    (noted : IsNoted sets news place n (is_some x)) where
+    (noted : IsNoted sets news n place (is_some x)) where
   -- A change of one queue, one place of one unit, its set and the pool: what is asked of the changed queue, and that each other one still stands.
   pub kept_with : AreKept at3 after (set queues place q) (with_slot slots n place x) news
   kept_with = record {
@@ -134,7 +134,7 @@ module _ (at0 at3 : Slot → Option Node) (queues : List Queue) (slots : Slots) 
       | inl e ↦ inl (unit_lengths slots n place m x inside ∙ e)
       | inr e ↦ inr (unit_lengths slots n place m x inside ∙ e ∙ sym (length-set queues place q))
     ];
-    set_count = noted.count ∙ kept.set_count ∙ sym (length-set queues place q);
+    few = subst (λ (k : ℕ). k ≤ 384) (sym (length-set queues place q)) kept.few;
     marked = λ m p h. marks m p (subst (λ (k : ℕ). p < k) (length-set queues place q) h);
   }
     where
@@ -150,10 +150,10 @@ module _ (at0 at3 : Slot → Option Node) (queues : List Queue) (slots : Slots) 
         ]
       ]
 
-      marks : (m p : ℕ) → p < length queues → in_set (get_or news p no_set) m ≡ is_some (slot_in (with_slot slots n place x) m p)
-      marks m p h = elim (cases_eq m n) as (λ _. in_set (get_or news p no_set) m ≡ is_some (slot_in (with_slot slots n place x) m p)) [
-        | inl e ↦ elim (cases_eq p place) as (λ _. in_set (get_or news p no_set) m ≡ is_some (slot_in (with_slot slots n place x) m p)) [
-          | inl f ↦ subst (λ (i : ℕ). in_set (get_or news p no_set) i ≡ is_some (slot_in (with_slot slots n place x) i p)) (sym e) (subst (λ (i : ℕ). in_set (get_or news i no_set) n ≡ is_some (slot_in (with_slot slots n place x) n i)) (sym f) (noted.here ∙ sym (ap is_some (read_same slots n place x inside))))
+      marks : (m p : ℕ) → p < length queues → is_marked news m p ≡ is_some (slot_in (with_slot slots n place x) m p)
+      marks m p h = elim (cases_eq m n) as (λ _. is_marked news m p ≡ is_some (slot_in (with_slot slots n place x) m p)) [
+        | inl e ↦ elim (cases_eq p place) as (λ _. is_marked news m p ≡ is_some (slot_in (with_slot slots n place x) m p)) [
+          | inl f ↦ subst (λ (i : ℕ). is_marked news i p ≡ is_some (slot_in (with_slot slots n place x) i p)) (sym e) (subst (λ (i : ℕ). is_marked news n i ≡ is_some (slot_in (with_slot slots n place x) n i)) (sym f) (noted.here ∙ sym (ap is_some (read_same slots n place x inside))))
           | inr f ↦ noted.others m p (λ _ g. f g) ∙ kept.marked m p h ∙ sym (ap is_some (read_other slots n place m p x inside (λ _ g. f g)))
         ]
         | inr e ↦ noted.others m p (λ g _. e g) ∙ kept.marked m p h ∙ sym (ap is_some (read_other slots n place m p x inside (λ g _. e g)))
@@ -162,7 +162,7 @@ module _ (at0 at3 : Slot → Option Node) (queues : List Queue) (slots : Slots) 
 abbrev pub StaysApart : (Slot → Option Node) → (Slot → Option Node) → Queue → Type 0
 StaysApart at0 at3 q = (items theirs : List Item) (other : Queue) → Stands at0 q items → Stands at0 other theirs → Apart items theirs → Stands at3 other theirs
 
-module _ (entries : Entries) (at0 : Slot → Option Node) (queues : List Queue) (slots : Slots) (sets : List NumberSet) (place : ℕ) (q0 : Queue) (e : Entry) (spare : ℕ) (kept : AreKept at0 spare queues slots sets) (fits : EntryFits at0 (length queues) slots e place) (is_q : q0 ≡ get_or queues place q0) where
+module _ (entries : Entries) (at0 : Slot → Option Node) (queues : List Queue) (slots : Slots) (sets : List PlaceSet) (place : ℕ) (q0 : Queue) (e : Entry) (spare : ℕ) (kept : AreKept at0 spare queues slots sets) (fits : EntryFits at0 (length queues) slots e place) (is_q : q0 ≡ get_or queues place q0) where
   -- the queue before a change
   pub queue_was : IsQueueAt at0 q0 slots place (kept.lists place)
   queue_was = subst (λ (q : Queue). IsQueueAt at0 q slots place (kept.lists place)) (sym is_q) (kept.queues_stand place q0 fits.queued)
@@ -192,7 +192,7 @@ module _ (entries : Entries) (at0 : Slot → Option Node) (queues : List Queue) 
     pub stands_in : IsIn at0 q0 s
     stands_in = record { front = parts_were.front; entry = item_was.0; back = parts_were.back; stands = stood_before }
 
-  module _ (at3 : Slot → Option Node) (q3 : Queue) (news : List NumberSet) (after : ℕ) (others : StaysApart at0 at3 q0) (order : q3.key_first ≡ q0.key_first) where
+  module _ (at3 : Slot → Option Node) (q3 : Queue) (news : List PlaceSet) (after : ℕ) (others : StaysApart at0 at3 q0) (order : q3.key_first ≡ q0.key_first) where
     other_lists : (p : ℕ) → p ≢ place → p < length queues → (d : Queue) → Stands at3 (get_or queues p d) (kept.lists p)
     other_lists p d h w = others (kept.lists place) (kept.lists p) (get_or queues p w) queue_was.stands (kept.queues_stand p w h).stands (are_apart (kept.lists place) (kept.lists p) (kept.apart place p fits.queued h (λ g. d (sym g))))
 
@@ -229,7 +229,7 @@ module _ (entries : Entries) (at0 : Slot → Option Node) (queues : List Queue) 
       stood : Stands at3 q3 (there.front ++ (s, e) ∷ there.back)
       stood = placed there.front there.back there.is_place
 
-      pub kept_entered : Absent → at0 s ≡ None → after + 1 ≡ spare → IsNoted sets news place (number_of e) true → AreKept at3 after (set queues place q3) (with_slot slots (number_of e) place (Some s)) news
+      pub kept_entered : Absent → at0 s ≡ None → after + 1 ≡ spare → IsNoted sets news (number_of e) place true → AreKept at3 after (set queues place q3) (with_slot slots (number_of e) place (Some s)) news
       kept_entered absent free room noted =
           let was = queue_was in
           let n : ℕ = number_of e in
@@ -286,7 +286,7 @@ module _ (entries : Entries) (at0 : Slot → Option Node) (queues : List Queue) 
       abbrev pub parts : Parted (s, left_item) (kept.lists place)
       parts = parts_were s some
 
-      pub kept_left : Distinct → after ≡ spare + 1 → IsNoted sets news place (number_of e) false → AreKept at3 after (set queues place q3) (with_slot slots (number_of e) place None) news
+      pub kept_left : Distinct → after ≡ spare + 1 → IsNoted sets news (number_of e) place false → AreKept at3 after (set queues place q3) (with_slot slots (number_of e) place None) news
       kept_left distinct room noted =
           let was = queue_was in
           let n : ℕ = number_of e in
@@ -347,7 +347,7 @@ turned_not at slots e place stands m h = record {
 }
 
 -- what stands at a unit's slot is its entry
-entry_here : Entries → (at : Slot → Option Node) (spare : ℕ) (queues : List Queue) (slots : Slots) (sets : List NumberSet) (e : Entry) (place : ℕ) (s : Slot) (kept : AreKept at spare queues slots sets) → EntryFits at (length queues) slots e place → slot_in slots (number_of e) place ≡ Some s → entry_in at (slot_in slots (number_of e) place) ≡ Some e
+entry_here : Entries → (at : Slot → Option Node) (spare : ℕ) (queues : List Queue) (slots : Slots) (sets : List PlaceSet) (e : Entry) (place : ℕ) (s : Slot) (kept : AreKept at spare queues slots sets) → EntryFits at (length queues) slots e place → slot_in slots (number_of e) place ≡ Some s → entry_in at (slot_in slots (number_of e) place) ≡ Some e
 entry_here law at spare queues slots sets e place s kept fits some =
     let d : Queue = record { key_first = true; first = None; ends = [] } in
     let q = kept.queues_stand place d fits.queued in
@@ -356,7 +356,7 @@ entry_here law at spare queues slots sets e place s kept fits some =
     there ∙ ap Some (fits.same place i.0 there)
 
 -- where a unit stands already, or stands no more, nothing is to change
-pub turned_already : Entries → (at : Slot → Option Node) (spare : ℕ) (queues : List Queue) (slots : Slots) (sets : List NumberSet) (e : Entry) (place : ℕ) (stands : Bool) → AreKept at spare queues slots sets → EntryFits at (length queues) slots e place → is_some (slot_in slots (number_of e) place) ≡ stands → Turned at slots at slots e place stands
+pub turned_already : Entries → (at : Slot → Option Node) (spare : ℕ) (queues : List Queue) (slots : Slots) (sets : List PlaceSet) (e : Entry) (place : ℕ) (stands : Bool) → AreKept at spare queues slots sets → EntryFits at (length queues) slots e place → is_some (slot_in slots (number_of e) place) ≡ stands → Turned at slots at slots e place stands
 turned_already law at spare queues slots sets e place stands kept fits is = by (slot_in slots (number_of e) place) refl
   where
     by : (o : Option Slot) → slot_in slots (number_of e) place ≡ o → Turned at slots at slots e place stands

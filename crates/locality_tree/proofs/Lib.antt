@@ -9,5 +9,7 @@ pub mod RanksLemmas
 pub mod TreePathLemmas
 pub mod TreesAsSeen
 pub mod TreesLemmas
-pub mod NumberSetsLemmas
+pub mod PlaceSetsLemmas
 pub mod VacantLemmas
+pub mod UnitsLemmas
+pub mod AdmitsLemmas

@@ -2,16 +2,16 @@
 use Rattle.std.proofs.Common.{◌≡◌, ℕ, ◌+◌, ◌<◌, ◌≤◌, zero, suc, Bool, true, false, List, [], ◌∷◌, Option, Some, None, is_some, IsSome, length, get_or, set, replicate, cond, refl, sym, ap, subst, ◌∙◌, inl, inr, arith}
 use Rattle.std.proofs.lemmas.Bool.{cases_eq, cases_lt}
 use Rattle.std.proofs.lemmas.Bool.Decides.{eqb_tells}
-use Rattle.std.proofs.lemmas.List.{length-map, length-set, get_or_past, ext_get_or}
+use Rattle.std.proofs.lemmas.List.{length-set, get_or_past, ext_get_or}
 use Rattle.slot_pool.specs.declared.pool.Slot.{Slot}
 use Rattle.slot_pool.specs.Pools.{PoolRecord, value_at, generation_at, slot_at}
 use Rattle.wait_queue.specs.declared.node.Entry.{Entry}
 use Rattle.wait_queue.specs.declared.node.Node.{Node}
 use Rattle.wait_queue.specs.declared.queue.Queue.{Queue}
 use Rattle.locality_tree.specs.declared.layout.Layout.{Layout}
-use Rattle.locality_tree.specs.declared.number_set.NumberSet.{NumberSet}
-use Rattle.locality_tree.specs.NumberSets.{in_set, no_set}
-use Rattle.locality_tree.specs.Layouts.{Places, Slots, slot_in, number_in, with_slot, with_places, with_vacant, numbers_of, slot_under, by_place, slots_seen, slots_of, number_of, AreKept, EntryFitsIn, IsNoted}
+use Rattle.locality_tree.specs.declared.place_set.PlaceSet.{PlaceSet}
+use Rattle.locality_tree.specs.PlaceSets.{is_marked}
+use Rattle.locality_tree.specs.Layouts.{Places, Slots, slot_in, number_in, with_slot, with_places, with_vacant, numbers_of, slot_under, by_place, slots_seen, sets_of, number_of, AreKept, EntryFitsIn, IsNoted}
 use Rattle.locality_tree.proofs.LayoutsLemmas.{slot_queued, place_same, place_other, read_same, read_other, unit_lengths}
 use Rattle.locality_tree.proofs.QueueLaws.{Entries, member_entry, live}
 
@@ -42,9 +42,9 @@ module _ {A B : Type 0} (see : ℕ → A → B) where
       ∙ ap (λ (zs : List B). y ∷ zs) (alike_by x y (suc k) n (λ i l g. h i (omega (arith, l)) (omega (arith, g))))
 
 -- what a pool and sets make of the numbers
-module _ (pool : PoolRecord Node) (sets : List NumberSet) where
+module _ (pool : PoolRecord Node) (sets : List PlaceSet) where
   abbrev pub seen_at : ℕ → ℕ → ℕ → Option Slot
-  seen_at n k x = slot_under pool (in_set (get_or sets k no_set) n) x
+  seen_at n k x = slot_under pool (is_marked sets n k) x
 
   abbrev pub unit_seen : ℕ → List ℕ → List (Option Slot)
   unit_seen n row = by_place (seen_at n) 0 row
@@ -61,15 +61,15 @@ module _ (pool : PoolRecord Node) (sets : List NumberSet) where
   pub seen_width : (rows : Places ℕ) (n : ℕ) → length (get_or (slots_seen pool sets rows) n []) ≡ length (get_or rows n [])
   seen_width rows n = ap length (seen_unit rows n) ∙ length_by (seen_at n) 0 (get_or rows n [])
 
-  pub seen_slot : (rows : Places ℕ) (n k : ℕ) → k < length (get_or rows n []) → slot_in (slots_seen pool sets rows) n k ≡ slot_under pool (in_set (get_or sets k no_set) n) (number_in rows n k)
+  pub seen_slot : (rows : Places ℕ) (n k : ℕ) → k < length (get_or rows n []) → slot_in (slots_seen pool sets rows) n k ≡ slot_under pool (is_marked sets n k) (number_in rows n k)
   seen_slot rows n k h = ap (λ (r : List (Option Slot)). get_or r k None) (seen_unit rows n) ∙ read_by (seen_at n) 0 (get_or rows n []) k k None 0 (omega arith) h
 
   -- where the set says that the unit does not stand it has no slot
-  pub seen_none : (rows : Places ℕ) (n k : ℕ) → k < length (get_or rows n []) → in_set (get_or sets k no_set) n ≡ false → slot_in (slots_seen pool sets rows) n k ≡ None
+  pub seen_none : (rows : Places ℕ) (n k : ℕ) → k < length (get_or rows n []) → is_marked sets n k ≡ false → slot_in (slots_seen pool sets rows) n k ≡ None
   seen_none rows n k h none = seen_slot rows n k h ∙ ap (λ b. slot_under pool b (number_in rows n k)) none
 
   -- units that get places where no set has them
-  pub seen_vacant : (rows : Places ℕ) (first places n : ℕ) → ((j k : ℕ) → j < n → k < places → in_set (get_or sets k no_set) (first + j) ≡ false) → slots_seen pool sets (with_places 0 rows first places n) ≡ with_vacant (slots_seen pool sets rows) first places n
+  pub seen_vacant : (rows : Places ℕ) (first places n : ℕ) → ((j k : ℕ) → j < n → k < places → is_marked sets (first + j) k ≡ false) → slots_seen pool sets (with_places 0 rows first places n) ≡ with_vacant (slots_seen pool sets rows) first places n
   seen_vacant rows first places zero none = refl
   seen_vacant rows first places (suc n) none =
       set_by unit_seen 0 (with_places 0 rows first places n) (first + n) (first + n) (replicate places 0) (omega arith)
@@ -79,17 +79,15 @@ module _ (pool : PoolRecord Node) (sets : List NumberSet) where
   pub seen_empty : (count : ℕ) → slots_seen pool sets (replicate count []) ≡ replicate count []
   seen_empty count = alike_by unit_seen [] [] 0 count (λ _ _ _. refl)
 
--- each unit has its places
-pub slots_count : (p : Layout) → length (slots_of p) ≡ length p.slots.items
-slots_count p = seen_count p.pool p.sets.items (numbers_of p.slots.items) ∙ length-map p.slots.items (λ v. v.items)
-
+-- the units that were not admitted have no place either
 -- a place that an entry fits is one of the unit's numbers too
 pub fits_number : (p : Layout) (e : Entry) (place : ℕ) → EntryFitsIn p e place → place < length (get_or (numbers_of p.slots.items) (number_of e) [])
-fits_number p e place fits = subst (λ (w : ℕ). place < w) (seen_width p.pool p.sets.items (numbers_of p.slots.items) (number_of e)) fits.inside
+fits_number p e place fits = subst (λ (w : ℕ). place < w) (seen_width p.pool (sets_of p.slots.items) (numbers_of p.slots.items) (number_of e)) fits.inside
 
--- where no generation changes, each number leads to the same slot
-pub seen_same : (before after : PoolRecord Node) (sets : List NumberSet) → ((n : ℕ) → generation_at after n ≡ generation_at before n) → (rows : Places ℕ) → slots_seen after sets rows ≡ slots_seen before sets rows
-seen_same before after sets same rows = same_by (unit_seen after sets) (unit_seen before sets) (λ n row. same_by (seen_at after sets n) (seen_at before sets n) (λ k x. under x (in_set (get_or sets k no_set) n)) 0 row) 0 rows
+-- where no generation and no set changes, each number leads to the same slot
+pub seen_same : (before after : PoolRecord Node) (sets news : List PlaceSet) → ((n : ℕ) → generation_at after n ≡ generation_at before n) → ((n k : ℕ) → is_marked news n k ≡ is_marked sets n k) → (rows : Places ℕ) → slots_seen after news rows ≡ slots_seen before sets rows
+seen_same before after sets news same marks rows =
+    same_by (unit_seen after news) (unit_seen before sets) (λ n row. same_by (seen_at after news n) (seen_at before sets n) (λ k x. ap (λ b. slot_under after b x) (marks n k) ∙ under x (is_marked sets n k)) 0 row) 0 rows
   where
     under : (x : ℕ) (b : Bool) → slot_under after b x ≡ slot_under before b x
     under x false = refl
@@ -106,7 +104,7 @@ live_again pool s h = elim (eqb_tells (generation_at pool s.number) s.generation
     not_some o g = absurd (cc)
 
 -- all slots that are kept are live
-kept_again : Entries → (pool : PoolRecord Node) (spare : ℕ) (queues : List Queue) (slots : Slots) (sets : List NumberSet) → AreKept (value_at pool) spare queues slots sets → (n k : ℕ) (s : Slot) → slot_in slots n k ≡ Some s → slot_at pool s.number ≡ s
+kept_again : Entries → (pool : PoolRecord Node) (spare : ℕ) (queues : List Queue) (slots : Slots) (sets : List PlaceSet) → AreKept (value_at pool) spare queues slots sets → (n k : ℕ) (s : Slot) → slot_in slots n k ≡ Some s → slot_at pool s.number ≡ s
 kept_again law pool spare queues slots sets kept n k s h =
     let d : Queue = record { key_first = true; first = None; ends = [] } in
     let q = kept.queues_stand k d (slot_queued (value_at pool) spare queues slots sets kept n k s h) in
@@ -117,7 +115,7 @@ kept_again law pool spare queues slots sets kept n k s h =
 places_same : (one other : Slots) → length one ≡ length other → ((n : ℕ) → length (get_or one n []) ≡ length (get_or other n [])) → ((n k : ℕ) → k < length (get_or one n []) → slot_in one n k ≡ slot_in other n k) → one ≡ other
 places_same one other count widths reads = ext_get_or [] one other count (λ n _. ext_get_or None (get_or one n []) (get_or other n []) (widths n) (λ k h. reads n k h))
 
-module _ (before after : PoolRecord Node) (sets news : List NumberSet) (rows : Places ℕ) (n place number : ℕ) (x : Option Slot) (inside : place < length (get_or rows n [])) (noted : IsNoted sets news place n (is_some x)) (here : (s : Slot) → x ≡ Some s → number ≡ s.number) where
+module _ (before after : PoolRecord Node) (sets news : List PlaceSet) (rows : Places ℕ) (n place number : ℕ) (x : Option Slot) (inside : place < length (get_or rows n [])) (noted : IsNoted sets news n place (is_some x)) (here : (s : Slot) → x ≡ Some s → number ≡ s.number) where
   abbrev olds : Slots
   olds = slots_seen before sets rows
 
@@ -128,7 +126,7 @@ module _ (before after : PoolRecord Node) (sets news : List NumberSet) (rows : P
   within = let w = seen_width before sets rows n in omega (arith, inside, w)
 
   module _ (again : (m k : ℕ) (s : Slot) → slot_in (with_slot olds n place x) m k ≡ Some s → slot_at after s.number ≡ s) where
-    seen_here : slot_under after (in_set (get_or news place no_set) n) (number_in now n place) ≡ slot_in (with_slot olds n place x) n place
+    seen_here : slot_under after (is_marked news n place) (number_in now n place) ≡ slot_in (with_slot olds n place x) n place
     seen_here =
         ap (λ b. slot_under after b (number_in now n place)) noted.here ∙ ap (slot_under after (is_some x)) (place_same 0 rows n place number inside) ∙ by x refl
         ∙ sym (read_same olds n place x within)
@@ -137,10 +135,10 @@ module _ (before after : PoolRecord Node) (sets news : List NumberSet) (rows : P
         by None e = refl
         by (Some s) e = ap (λ (k : ℕ). let t : Option Slot = Some (slot_at after k) in t) (here s e) ∙ ap Some (again n place s (read_same olds n place x within ∙ e))
 
-    seen_other : (m k : ℕ) → k < length (get_or rows m []) → (m ≡ n → k ≡ place → ⊥) → slot_under after (in_set (get_or news k no_set) m) (number_in now m k) ≡ slot_in (with_slot olds n place x) m k
+    seen_other : (m k : ℕ) → k < length (get_or rows m []) → (m ≡ n → k ≡ place → ⊥) → slot_under after (is_marked news m k) (number_in now m k) ≡ slot_in (with_slot olds n place x) m k
     seen_other m k h d =
-        ap (λ b. slot_under after b (number_in now m k)) (noted.others m k d) ∙ ap (slot_under after (in_set (get_or sets k no_set) m)) (place_other 0 rows n place m k number inside d)
-        ∙ by (in_set (get_or sets k no_set) m) (read_other olds n place m k x within d ∙ seen_slot before sets rows m k h)
+        ap (λ b. slot_under after b (number_in now m k)) (noted.others m k d) ∙ ap (slot_under after (is_marked sets m k)) (place_other 0 rows n place m k number inside d)
+        ∙ by (is_marked sets m k) (read_other olds n place m k x within d ∙ seen_slot before sets rows m k h)
       where
         by : (b : Bool) → slot_in (with_slot olds n place x) m k ≡ slot_under before b (number_in rows m k) → slot_under after b (number_in rows m k) ≡ slot_in (with_slot olds n place x) m k
         by false e = sym e
@@ -154,11 +152,11 @@ module _ (before after : PoolRecord Node) (sets news : List NumberSet) (rows : P
         (λ m k h.
         let there : k < length (get_or now m []) = let w = seen_width after news now m in omega (arith, h, w) in
         let was : k < length (get_or rows m []) = let w = unit_lengths rows n place m number inside in omega (arith, there, w) in
-        seen_slot after news now m k there ∙ (elim (cases_eq m n) as (λ _. slot_under after (in_set (get_or news k no_set) m) (number_in now m k) ≡ slot_in (with_slot olds n place x) m k) [
-          | inl e ↦ elim (cases_eq k place) as (λ _. slot_under after (in_set (get_or news k no_set) m) (number_in now m k) ≡ slot_in (with_slot olds n place x) m k) [
+        seen_slot after news now m k there ∙ (elim (cases_eq m n) as (λ _. slot_under after (is_marked news m k) (number_in now m k) ≡ slot_in (with_slot olds n place x) m k) [
+          | inl e ↦ elim (cases_eq k place) as (λ _. slot_under after (is_marked news m k) (number_in now m k) ≡ slot_in (with_slot olds n place x) m k) [
             | inl f ↦
-                subst (λ (i : ℕ). slot_under after (in_set (get_or news k no_set) i) (number_in now i k) ≡ slot_in (with_slot olds n place x) i k) (sym e)
-                (subst (λ (i : ℕ). slot_under after (in_set (get_or news i no_set) n) (number_in now n i) ≡ slot_in (with_slot olds n place x) n i) (sym f) seen_here)
+                subst (λ (i : ℕ). slot_under after (is_marked news i k) (number_in now i k) ≡ slot_in (with_slot olds n place x) i k) (sym e)
+                (subst (λ (i : ℕ). slot_under after (is_marked news n i) (number_in now n i) ≡ slot_in (with_slot olds n place x) n i) (sym f) seen_here)
             | inr f ↦ seen_other m k was (λ _ g. f g)
           ]
           | inr e ↦ seen_other m k was (λ g _. e g)

@@ -12,10 +12,10 @@ use Rattle.wait_queue.specs.declared.node.Node.{Node}
 use Rattle.wait_queue.specs.declared.queue.Queue.{Queue}
 use Rattle.wait_queue.specs.Queues.{Item, Stands, IsIn, IsInRange, AreBehind, IsInOrder, is_before, first_of, rank, entry_at}
 use Rattle.locality_tree.specs.declared.path.Path.{Path}
-use Rattle.locality_tree.specs.declared.number_set.NumberSet.{NumberSet}
+use Rattle.locality_tree.specs.declared.place_set.PlaceSet.{PlaceSet}
 use Rattle.locality_tree.specs.Trees.{RankedEntry, ranks_before, IsRanked}
-use Rattle.locality_tree.specs.Layouts.{Slots, HasNumber, AreKept, IsQueueAt}
-use Rattle.locality_tree.specs.Paths.{is_in_either, nothing, unskipped, Stops, IsTail, HasTail, Passed, SkipsTo, priority_in, at_most, is_best, IsRanking, pairs_of, Leads, IsWalkable, Gives}
+use Rattle.locality_tree.specs.Layouts.{Slots, HasNumber, AreKept, IsQueueAt, sets_of}
+use Rattle.locality_tree.specs.Paths.{is_at_either, nothing, unskipped, Stops, IsTail, HasTail, Passed, SkipsTo, priority_in, at_most, is_best, IsRanking, pairs_of, Leads, IsWalkable, Gives}
 use Rattle.locality_tree.proofs.MembersLemmas.{in_append, in_here, all_in}
 use Rattle.locality_tree.proofs.QueueLaws.{Entries, Parts, Rises, member_entry, live, same_entry, same_slot, none_some}
 use Rattle.locality_tree.proofs.RanksLemmas.{by_level, by_priority, by_order, head_most, FirstLeft, first_left, none_left}
@@ -257,28 +257,30 @@ tail_behind law at q o tail s behind t e told =
     record { tail = h.back; is_tail = subst (λ (x : Option Slot). IsTail at q x h.back) (sym (told h.done h.back h.entry h.stands)) h.onward }
 
 -- the whole list of a queue is a tail of it
-pub whole_tail : (at : Slot → Option Node) (spare : ℕ) (queues : List Queue) (slots : Slots) (sets : List NumberSet) (place : ℕ) (q : Queue) (o : Option Slot) (kept : AreKept at spare queues slots sets) → q ≡ get_or queues place q → place < length queues →
+pub whole_tail : (at : Slot → Option Node) (spare : ℕ) (queues : List Queue) (slots : Slots) (sets : List PlaceSet) (place : ℕ) (q : Queue) (o : Option Slot) (kept : AreKept at spare queues slots sets) → q ≡ get_or queues place q → place < length queues →
     ((at : Slot → Option Node) (items : List Item) → Stands at q items → o ≡ first_of items None) → IsTail at q o (kept.lists place)
 whole_tail at spare queues slots sets place q o kept is queued first =
     let h : IsQueueAt at q slots place (kept.lists place) = subst (λ (r : Queue). IsQueueAt at r slots place (kept.lists place)) (sym is) (kept.queues_stand place q queued) in
     record { done = []; stands = h.stands; by_priority = h.by_priority; here = first at (kept.lists place) h.stands; numbers = h.numbers }
 
 -- a path at the beginning of its queues
-pub leads_whole : (p : Path) (pairs : List RankedEntry) (near rack cluster : List Item) (near_set rack_set : NumberSet) → p.near_set.now ≡ near_set → p.rack_set.now ≡ rack_set → IsTail (value_at p.pool.now) p.near.now p.at_near near →
-    SkipsTo (value_at p.pool.now) p.rack.now (is_in_either p.near_set.now p.near_set.now) rack p.at_rack → SkipsTo (value_at p.pool.now) p.cluster.now (is_in_either p.near_set.now p.rack_set.now) cluster p.at_cluster → IsRanking pairs (pairs_of near_set rack_set near rack cluster) → Leads p pairs
-leads_whole p pairs near rack cluster near_set rack_set near_is rack_is n r k ranking = record {
+pub leads_whole : (p : Path) (pairs : List RankedEntry) (near rack cluster : List Item) → p.near_place < 384 → p.rack_place < 384 → IsTail (value_at p.pool.now) p.near.now p.at_near near →
+    SkipsTo (value_at p.pool.now) p.rack.now (is_at_either (sets_of p.units.now) p.near_place p.near_place) rack p.at_rack → SkipsTo (value_at p.pool.now) p.cluster.now (is_at_either (sets_of p.units.now) p.near_place p.rack_place) cluster p.at_cluster →
+    IsRanking pairs (pairs_of (sets_of p.units.now) p.near_place p.rack_place near rack cluster) → Leads p pairs
+leads_whole p pairs near rack cluster near_inside rack_inside n r k ranking = record {
   near = near;
   rack = r.passed.left;
   cluster = k.passed.left;
   at_near = n;
   at_rack = r.passed.is_tail;
   at_cluster = k.passed.is_tail;
+  near_inside = near_inside;
+  rack_inside = rack_inside;
   rack_stops = r.stops;
   cluster_stops = k.stops;
   ranking =
-      subst (λ (ps : List RankedEntry). IsRanking pairs (unskipped nothing 0 near ++ (ps ++ unskipped (is_in_either p.near_set.now p.rack_set.now) 2 k.passed.left))) (r.passed.same 1)
-      (subst (λ (ps : List RankedEntry). IsRanking pairs (unskipped nothing 0 near ++ (unskipped (is_in_either p.near_set.now p.near_set.now) 1 rack ++ ps))) (k.passed.same 2)
-      (subst (λ (s : NumberSet). IsRanking pairs (pairs_of p.near_set.now s near rack cluster)) (sym rack_is) (subst (λ (s : NumberSet). IsRanking pairs (pairs_of s rack_set near rack cluster)) (sym near_is) ranking)));
+      subst (λ (ps : List RankedEntry). IsRanking pairs (unskipped nothing 0 near ++ (ps ++ unskipped (is_at_either (sets_of p.units.now) p.near_place p.rack_place) 2 k.passed.left))) (r.passed.same 1)
+      (subst (λ (ps : List RankedEntry). IsRanking pairs (unskipped nothing 0 near ++ (unskipped (is_at_either (sets_of p.units.now) p.near_place p.near_place) 1 rack ++ ps))) (k.passed.same 2) ranking);
 }
 
 -- an answer that is the first pair, and a path that leads over the others
@@ -295,10 +297,10 @@ module _ (law : Entries) (parts : Parts) (p : Path) (pairs : List RankedEntry) (
   map_of = value_at p.pool.now
 
   abbrev pub at_rack_skips : Entry → Bool
-  at_rack_skips = is_in_either p.near_set.now p.near_set.now
+  at_rack_skips = is_at_either (sets_of p.units.now) p.near_place p.near_place
 
   abbrev pub at_cluster_skips : Entry → Bool
-  at_cluster_skips = is_in_either p.near_set.now p.rack_set.now
+  at_cluster_skips = is_at_either (sets_of p.units.now) p.near_place p.rack_place
 
   abbrev pub near_pairs : List RankedEntry
   near_pairs = unskipped nothing 0 l.near
@@ -361,6 +363,8 @@ module _ (law : Entries) (parts : Parts) (p : Path) (pairs : List RankedEntry) (
         at_near = subst (λ (x : Option Slot). IsTail map_of p.near.now x h.back) (sym behind_at) h.onward;
         at_rack = l.at_rack;
         at_cluster = l.at_cluster;
+        near_inside = l.near_inside;
+        rack_inside = l.rack_inside;
         rack_stops = l.rack_stops;
         cluster_stops = l.cluster_stops;
         ranking = ranking;
@@ -384,6 +388,8 @@ module _ (law : Entries) (parts : Parts) (p : Path) (pairs : List RankedEntry) (
         at_near = l.at_near;
         at_rack = k.passed.is_tail;
         at_cluster = l.at_cluster;
+        near_inside = l.near_inside;
+        rack_inside = l.rack_inside;
         rack_stops = k.stops;
         cluster_stops = l.cluster_stops;
         ranking = subst (λ (x : List RankedEntry). IsRanking rest (near_pairs ++ (x ++ cluster_pairs))) (k.passed.same 1) ranking;
@@ -407,6 +413,8 @@ module _ (law : Entries) (parts : Parts) (p : Path) (pairs : List RankedEntry) (
         at_near = l.at_near;
         at_rack = l.at_rack;
         at_cluster = k.passed.is_tail;
+        near_inside = l.near_inside;
+        rack_inside = l.rack_inside;
         rack_stops = l.rack_stops;
         cluster_stops = k.stops;
         ranking = subst (λ (x : List RankedEntry). IsRanking rest (near_pairs ++ (rack_pairs ++ x))) (k.passed.same 2) ranking;

@@ -9,11 +9,11 @@ use Rattle.wait_queue.specs.declared.node.Node.{Node}
 use Rattle.wait_queue.specs.declared.queue.Queue.{Queue}
 use Rattle.wait_queue.specs.Queues.{Item, IsInOrder}
 use Rattle.locality_tree.specs.declared.layout.Layout.{Layout}
-use Rattle.locality_tree.specs.declared.number_set.NumberSet.{NumberSet}
-use Rattle.locality_tree.specs.NumberSets.{in_set, no_set}
+use Rattle.locality_tree.specs.declared.place_set.PlaceSet.{PlaceSet}
+use Rattle.locality_tree.specs.PlaceSets.{is_marked}
 use Rattle.locality_tree.specs.Trees.{RankedEntry, UnitState, unit_at, level_at, rack_place, cluster_place, HasPath}
-use Rattle.locality_tree.specs.Layouts.{Slots, slots_of, slot_in, number_of, entry_in, IsQueueAt, tree_record, IsTree}
-use Rattle.locality_tree.specs.Paths.{is_in_either, nothing, unskipped, IsRanking, pairs_of}
+use Rattle.locality_tree.specs.Layouts.{Slots, slots_of, sets_of, slot_in, number_of, entry_in, IsQueueAt, tree_record, IsTree}
+use Rattle.locality_tree.specs.Paths.{is_at_either, nothing, unskipped, IsRanking, pairs_of}
 use Rattle.locality_tree.proofs.MembersLemmas.{in_append}
 use Rattle.locality_tree.proofs.QueueLaws.{Entries, member_entry, same_entry}
 use Rattle.locality_tree.proofs.LayoutsLemmas.{listed}
@@ -92,11 +92,8 @@ module _ (law : Entries) (racks : List ℕ) (p : Layout) (t : IsTree racks p) (m
   abbrev pub last : ℕ
   last = cluster_place racks
 
-  abbrev pub near_set : NumberSet
-  near_set = get_or p.sets.items m no_set
-
-  abbrev pub rack_set : NumberSet
-  rack_set = get_or p.sets.items rack no_set
+  abbrev pub sets : List PlaceSet
+  sets = sets_of p.slots.items
 
   near_queued : m < length p.queues.items
   near_queued = let c = t.queue_count in omega (arith, c)
@@ -121,7 +118,7 @@ module _ (law : Entries) (racks : List ℕ) (p : Layout) (t : IsTree racks p) (m
   waits place h e g = (t.one_entry (number_of e) place e (there place h e g)).1
 
   in_cluster : (e : Entry) → entry_in map_of (slot_in slots (number_of e) last) ≡ Some e → HasEntry e (t.kept.lists last)
-  in_cluster e h = let l = listed law map_of p.pool.spare p.queues.items slots p.sets.items t.kept (number_of e) last e h in (l.slot, l.among)
+  in_cluster e h = let l = listed law map_of p.pool.spare p.queues.items slots sets t.kept (number_of e) last e h in (l.slot, l.among)
 
   in_queue : (place : ℕ) → place < length p.queues.items → (e : Entry) → entry_in map_of (slot_in slots (number_of e) last) ≡ Some e → is_some (slot_in slots (number_of e) place) ≡ true → HasEntry e (t.kept.lists place)
   in_queue place h e w s =
@@ -135,33 +132,33 @@ module _ (law : Entries) (racks : List ℕ) (p : Layout) (t : IsTree racks p) (m
   abbrev pub level : Entry → ℕ
   level e = cond (is_some (slot_in slots (number_of e) m)) 0 (cond (is_some (slot_in slots (number_of e) rack)) 1 2)
 
-  near_skips : (e : Entry) → is_in_either near_set near_set e ≡ is_some (slot_in slots (number_of e) m)
+  near_skips : (e : Entry) → is_at_either sets m m e ≡ is_some (slot_in slots (number_of e) m)
   near_skips e = ap (λ b. b || b) (t.kept.marked (number_of e) m near_queued) ∙ twice (is_some (slot_in slots (number_of e) m))
     where
       twice : (b : Bool) → (b || b) ≡ b
       twice true = refl
       twice false = refl
 
-  either_skips : (e : Entry) → is_in_either near_set rack_set e ≡ (is_some (slot_in slots (number_of e) m) || is_some (slot_in slots (number_of e) rack))
-  either_skips e = ap (λ b. b || in_set rack_set (number_of e)) (t.kept.marked (number_of e) m near_queued) ∙ ap (λ b. is_some (slot_in slots (number_of e) m) || b) (t.kept.marked (number_of e) rack rack_queued)
+  either_skips : (e : Entry) → is_at_either sets m rack e ≡ (is_some (slot_in slots (number_of e) m) || is_some (slot_in slots (number_of e) rack))
+  either_skips e = ap (λ b. b || is_marked sets (number_of e) rack) (t.kept.marked (number_of e) m near_queued) ∙ ap (λ b. is_some (slot_in slots (number_of e) m) || b) (t.kept.marked (number_of e) rack rack_queued)
 
   abbrev pub all_pairs : List RankedEntry
-  all_pairs = pairs_of near_set rack_set (t.kept.lists m) (t.kept.lists rack) (t.kept.lists last)
+  all_pairs = pairs_of sets m rack (t.kept.lists m) (t.kept.lists rack) (t.kept.lists last)
 
   -- Each pair of the three queues is one of the cluster's queue at its level.
   into_levels : (q : RankedEntry) → In q all_pairs → In q (with_levels level (t.kept.lists last))
-  into_levels q g = elim (in_append q (unskipped nothing 0 (t.kept.lists m)) (unskipped (is_in_either near_set near_set) 1 (t.kept.lists rack) ++ unskipped (is_in_either near_set rack_set) 2 (t.kept.lists last)) g) as (λ _. In q (with_levels level (t.kept.lists last))) [
+  into_levels q g = elim (in_append q (unskipped nothing 0 (t.kept.lists m)) (unskipped (is_at_either sets m m) 1 (t.kept.lists rack) ++ unskipped (is_at_either sets m rack) 2 (t.kept.lists last)) g) as (λ _. In q (with_levels level (t.kept.lists last))) [
     | inl h ↦
         let o = unskipped_out nothing 0 (t.kept.lists m) q h in
         let l : level q.0 ≡ 0 = ap (λ b. cond b 0 (cond (is_some (slot_in slots (number_of q.0) rack)) 1 2)) (stands_there m near_queued q.0 o.0) in
         at_level q (l ∙ sym o.2) (in_cluster q.0 (waits m near_queued q.0 o.0))
-    | inr h ↦ elim (in_append q (unskipped (is_in_either near_set near_set) 1 (t.kept.lists rack)) (unskipped (is_in_either near_set rack_set) 2 (t.kept.lists last)) h) as (λ _. In q (with_levels level (t.kept.lists last))) [
+    | inr h ↦ elim (in_append q (unskipped (is_at_either sets m m) 1 (t.kept.lists rack)) (unskipped (is_at_either sets m rack) 2 (t.kept.lists last)) h) as (λ _. In q (with_levels level (t.kept.lists last))) [
       | inl k ↦
-          let o = unskipped_out (is_in_either near_set near_set) 1 (t.kept.lists rack) q k in
+          let o = unskipped_out (is_at_either sets m m) 1 (t.kept.lists rack) q k in
           let l : level q.0 ≡ 1 = ap (λ b. cond b 0 (cond (is_some (slot_in slots (number_of q.0) rack)) 1 2)) (sym (near_skips q.0) ∙ o.1) ∙ ap (λ b. cond b 1 2) (stands_there rack rack_queued q.0 o.0) in
           at_level q (l ∙ sym o.2) (in_cluster q.0 (waits rack rack_queued q.0 o.0))
       | inr k ↦
-          let o = unskipped_out (is_in_either near_set rack_set) 2 (t.kept.lists last) q k in
+          let o = unskipped_out (is_at_either sets m rack) 2 (t.kept.lists last) q k in
           let none = both_false (is_some (slot_in slots (number_of q.0) m)) (is_some (slot_in slots (number_of q.0) rack)) (sym (either_skips q.0) ∙ o.1) in
           let l : level q.0 ≡ 2 = ap (λ b. cond b 0 (cond (is_some (slot_in slots (number_of q.0) rack)) 1 2)) none.0 ∙ ap (λ b. cond b 1 2) none.1 in
           at_level q (l ∙ sym o.2) o.0
@@ -176,12 +173,12 @@ module _ (law : Entries) (racks : List ℕ) (p : Layout) (t : IsTree racks p) (m
       let o = levels_out level (t.kept.lists last) q g in
       let w = waits last last_queued q.0 o.0 in
       subst (λ (k : ℕ). In (q.0, k) all_pairs) (sym o.1) ((elim (is_some (slot_in slots (number_of q.0) m)) as (λ b. is_some (slot_in slots (number_of q.0) m) ≡ b → In (q.0, cond b 0 (cond (is_some (slot_in slots (number_of q.0) rack)) 1 2)) all_pairs) [
-        | true ↦ λ f. in_left (q.0, 0) (unskipped nothing 0 (t.kept.lists m)) (unskipped (is_in_either near_set near_set) 1 (t.kept.lists rack) ++ unskipped (is_in_either near_set rack_set) 2 (t.kept.lists last)) (unskipped_in nothing 0 (t.kept.lists m) q.0 refl (in_queue m near_queued q.0 w f))
+        | true ↦ λ f. in_left (q.0, 0) (unskipped nothing 0 (t.kept.lists m)) (unskipped (is_at_either sets m m) 1 (t.kept.lists rack) ++ unskipped (is_at_either sets m rack) 2 (t.kept.lists last)) (unskipped_in nothing 0 (t.kept.lists m) q.0 refl (in_queue m near_queued q.0 w f))
         | false ↦ λ f. (elim (is_some (slot_in slots (number_of q.0) rack)) as (λ b. is_some (slot_in slots (number_of q.0) rack) ≡ b → In (q.0, cond b 1 2) all_pairs) [
-          | true ↦ λ r. in_right (q.0, 1) (unskipped nothing 0 (t.kept.lists m)) (unskipped (is_in_either near_set near_set) 1 (t.kept.lists rack) ++ unskipped (is_in_either near_set rack_set) 2 (t.kept.lists last))
-              (in_left (q.0, 1) (unskipped (is_in_either near_set near_set) 1 (t.kept.lists rack)) (unskipped (is_in_either near_set rack_set) 2 (t.kept.lists last)) (unskipped_in (is_in_either near_set near_set) 1 (t.kept.lists rack) q.0 (near_skips q.0 ∙ f) (in_queue rack rack_queued q.0 w r)))
-          | false ↦ λ r. in_right (q.0, 2) (unskipped nothing 0 (t.kept.lists m)) (unskipped (is_in_either near_set near_set) 1 (t.kept.lists rack) ++ unskipped (is_in_either near_set rack_set) 2 (t.kept.lists last))
-              (in_right (q.0, 2) (unskipped (is_in_either near_set near_set) 1 (t.kept.lists rack)) (unskipped (is_in_either near_set rack_set) 2 (t.kept.lists last)) (unskipped_in (is_in_either near_set rack_set) 2 (t.kept.lists last) q.0 (either_skips q.0 ∙ ap (λ b. b || is_some (slot_in slots (number_of q.0) rack)) f ∙ r) o.0))
+          | true ↦ λ r. in_right (q.0, 1) (unskipped nothing 0 (t.kept.lists m)) (unskipped (is_at_either sets m m) 1 (t.kept.lists rack) ++ unskipped (is_at_either sets m rack) 2 (t.kept.lists last))
+              (in_left (q.0, 1) (unskipped (is_at_either sets m m) 1 (t.kept.lists rack)) (unskipped (is_at_either sets m rack) 2 (t.kept.lists last)) (unskipped_in (is_at_either sets m m) 1 (t.kept.lists rack) q.0 (near_skips q.0 ∙ f) (in_queue rack rack_queued q.0 w r)))
+          | false ↦ λ r. in_right (q.0, 2) (unskipped nothing 0 (t.kept.lists m)) (unskipped (is_at_either sets m m) 1 (t.kept.lists rack) ++ unskipped (is_at_either sets m rack) 2 (t.kept.lists last))
+              (in_right (q.0, 2) (unskipped (is_at_either sets m m) 1 (t.kept.lists rack)) (unskipped (is_at_either sets m rack) 2 (t.kept.lists last)) (unskipped_in (is_at_either sets m rack) 2 (t.kept.lists last) q.0 (either_skips q.0 ∙ ap (λ b. b || is_some (slot_in slots (number_of q.0) rack)) f ∙ r) o.0))
         ]) refl
       ]) refl)
 

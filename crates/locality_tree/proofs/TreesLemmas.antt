@@ -11,9 +11,8 @@ use Rattle.wait_queue.specs.declared.node.Node.{Node}
 use Rattle.wait_queue.specs.declared.queue.Queue.{Queue}
 use Rattle.locality_tree.specs.declared.layout.Layout.{Layout}
 use Rattle.locality_tree.specs.Trees.{UnitState, TreeRecord, all_units, no_unit, idle, with_idle, unit_at, is_admitted, with_unit, cluster_place, place_count, refreshed, MayWait}
-use Rattle.locality_tree.specs.Layouts.{Slots, slots_of, slot_in, with_vacant, number_of, entry_in, AreKeptIn, EntryFitsIn, TurnedIn, LeftIn, Admits, state_of, states_in, tree_record, IsOwn, IsTree}
+use Rattle.locality_tree.specs.Layouts.{Slots, slots_of, sets_of, slot_in, with_vacant, number_of, entry_in, AreKeptIn, EntryFitsIn, TurnedIn, LeftIn, Admits, state_of, states_in, tree_record, IsOwn, IsTree}
 use Rattle.locality_tree.proofs.LayoutsLemmas.{read_same, unit_inside, listed}
-use Rattle.locality_tree.proofs.NumbersLemmas.{slots_count}
 use Rattle.locality_tree.proofs.VacantLemmas.{none_in, none_at, vacant_reads, vacant_count}
 use Rattle.locality_tree.proofs.QueueLaws.{Entries, same_entry, none_some}
 
@@ -64,7 +63,7 @@ waiting_fits law racks p t e place there queued =
     let d : Queue = record { key_first = true; first = None; ends = [] } in
     let last : ℕ = cluster_place racks in
     let count = t.queue_count in
-    let l = listed law (value_at p.pool) p.pool.spare p.queues.items (slots_of p) p.sets.items t.kept (number_of e) last e there in
+    let l = listed law (value_at p.pool) p.pool.spare p.queues.items (slots_of p) (sets_of p.slots.items) t.kept (number_of e) last e there in
     record {
       number = (t.kept.queues_stand last d (omega arith)).numbers (l.slot, e) l.among;
       inside = elim (t.kept.full (number_of e)) as (λ _. place < length (get_or (slots_of p) (number_of e) [])) [
@@ -119,7 +118,7 @@ module _ (racks : List ℕ) (p p2 : Layout) (e : Entry) (place : ℕ) (stands : 
         machines = t.machines;
         in_racks = t.in_racks;
         queue_count = count ∙ t.queue_count;
-        unit_count = sym (slots_count p2) ∙ turned_length ∙ slots_count p ∙ t.unit_count;
+        unit_count = turned_length ∙ t.unit_count;
         one_entry = λ m k f h. elim (cases_eq m n) as (λ _. IsOwn at2 slots2 last_of m f) [
           | inl a ↦
               let o = own k f (subst (λ (i : ℕ). entry_in at2 (slot_in slots2 i k) ≡ Some f) a h) in
@@ -240,7 +239,7 @@ module _ (racks : List ℕ) (p p2 : Layout) (e : Entry) (t : IsTree racks p) (ke
     machines = t.machines;
     in_racks = t.in_racks;
     queue_count = count ∙ t.queue_count;
-    unit_count = sym (slots_count p2) ∙ left.count ∙ slots_count p ∙ t.unit_count;
+    unit_count = left.count ∙ t.unit_count;
     one_entry = λ m k f h. let o = t.one_entry m k f (was m k f h) in (o.0, left.entries m (cluster_place racks) (other_unit m k f h) ∙ o.1);
     turns = λ m j f g h i q. t.turns m j f g (was m (cluster_place racks) f h) (was j (cluster_place racks) g i) q;
   }
@@ -268,7 +267,7 @@ module _ (racks : List ℕ) (p : Layout) (is : slots_of p ≡ replicate all_unit
     machines = few;
     in_racks = low;
     queue_count = count;
-    unit_count = sym (slots_count p) ∙ ap length is ∙ length-replicate all_units [];
+    unit_count = ap length is ∙ length-replicate all_units [];
     one_entry = λ n k e h. absurd (no_entry n k e h);
     turns = λ n m e f h g q. absurd (no_entry n (cluster_place racks) e h);
   }
@@ -292,7 +291,7 @@ module _ (racks : List ℕ) (p p2 : Layout) (first units : ℕ) (t : IsTree rack
     machines = t.machines;
     in_racks = t.in_racks;
     queue_count = a.count ∙ t.queue_count;
-    unit_count = sym (slots_count p2) ∙ ap length a.slots ∙ vacant_count (slots_of p) first (length p.queues.items) units ∙ slots_count p ∙ t.unit_count;
+    unit_count = ap length a.slots ∙ vacant_count (slots_of p) first (length p.queues.items) units ∙ t.unit_count;
     one_entry = λ n k e h. let o = t.one_entry n k e (sym (entry_stays n k) ∙ h) in (o.0, entry_stays n (cluster_place racks) ∙ o.1);
     turns = λ n m e f h g q. t.turns n m e f (sym (entry_stays n (cluster_place racks)) ∙ h) (sym (entry_stays m (cluster_place racks)) ∙ g) q;
   }
@@ -330,6 +329,15 @@ pub ok_or_err : {A E : Type 0} (r : Result A E) (P Q : Type 0) → OnOk r P → 
 ok_or_err (Ok x) P Q h g = inl h
 ok_or_err (Err x) P Q h g = inr g
 
+pub on_err : {A E : Type 0} (r : Result A E) (P Q : Type 0) → (P → Q) → OnErr r P → OnErr r Q
+on_err (Ok x) P Q f h = h
+on_err (Err x) P Q f h = f h
+
 pub on_ok : {A E : Type 0} (r : Result A E) (P Q : Type 0) → (P → Q) → OnOk r P → OnOk r Q
 on_ok (Ok x) P Q f h = f h
 on_ok (Err x) P Q f h = h
+
+-- what is so anyway
+pub if_err : {A E : Type 0} (r : Result A E) {P : Type 0} → P → OnErr r P
+if_err (Ok x) h = tt
+if_err (Err x) h = h

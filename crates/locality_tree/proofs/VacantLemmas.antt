@@ -9,10 +9,10 @@ use Rattle.std.proofs.lemmas.List.Sums.{sum_by-cons, sum_by-set}
 use Rattle.slot_pool.specs.declared.pool.Slot.{Slot}
 use Rattle.wait_queue.specs.declared.node.Node.{Node}
 use Rattle.wait_queue.specs.declared.queue.Queue.{Queue}
-use Rattle.locality_tree.specs.declared.number_set.NumberSet.{NumberSet}
+use Rattle.locality_tree.specs.declared.place_set.PlaceSet.{PlaceSet}
 use Rattle.locality_tree.specs.Trees.{all_units}
-use Rattle.locality_tree.specs.NumberSets.{in_set, no_set}
-use Rattle.locality_tree.specs.Layouts.{Slots, numbers_of, slot_in, with_vacant, vacancies, IsEmptyQueue, AreKept}
+use Rattle.locality_tree.specs.PlaceSets.{is_marked}
+use Rattle.locality_tree.specs.Layouts.{Slots, rows_of, slot_in, with_vacant, vacancies, IsEmptyQueue, AreKept}
 use Rattle.locality_tree.proofs.MembersLemmas.{all_get}
 use Rattle.locality_tree.proofs.QueueLaws.{Stays, none_some}
 
@@ -73,9 +73,9 @@ module _ (slots : Slots) (first places : ℕ) where
       omega (arith, rest, outer, inner, more)
 
 -- the layout of an admitted job
-pub kept_admitted : Stays → (at after : Slot → Option Node) (spare room : ℕ) (queues : List Queue) (slots : Slots) (sets : List NumberSet) (first units : ℕ) → AreKept at spare queues slots sets → ((s : Slot) → after s ≡ at s) → first + units ≤ length slots →
-    ((k : ℕ) → k < units → length (get_or slots (first + k) []) ≡ 0) → spare + units * length queues ≤ room → AreKept after room queues (with_vacant slots first (length queues) units) sets
-kept_admitted stays at after spare room queues slots sets first units kept same long new more =
+pub kept_admitted : Stays → (at after : Slot → Option Node) (spare room : ℕ) (queues : List Queue) (slots : Slots) (sets news : List PlaceSet) (first units : ℕ) → AreKept at spare queues slots sets → ((n k : ℕ) → is_marked news n k ≡ is_marked sets n k) → ((s : Slot) → after s ≡ at s) → first + units ≤ length slots →
+    ((k : ℕ) → k < units → length (get_or slots (first + k) []) ≡ 0) → spare + units * length queues ≤ room → AreKept after room queues (with_vacant slots first (length queues) units) news
+kept_admitted stays at after spare room queues slots sets news first units kept marks same long new more =
     let reads = vacant_reads slots first (length queues) units long new in
     let need = vacant_room slots first (length queues) units long in
     let less = kept.room in
@@ -96,12 +96,12 @@ kept_admitted stays at after spare room queues slots sets first units kept same 
         | inl h ↦ elim (kept.full n) as (λ _. (length (get_or (with_vacant slots first (length queues) units) n []) ≡ 0) ⊎ (length (get_or (with_vacant slots first (length queues) units) n []) ≡ length queues)) [ inl g ↦ inl (h ∙ g) | inr g ↦ inr (h ∙ g) ]
         | inr h ↦ inr h
       ];
-      set_count = kept.set_count;
-      marked = λ n p h. kept.marked n p h ∙ sym (ap is_some (reads n p));
+      few = kept.few;
+      marked = λ n p h. marks n p ∙ kept.marked n p h ∙ sym (ap is_some (reads n p));
     }
 
 -- no unit has a place
-pub none_in : (count n : ℕ) → get_or {A = List (Option Slot)} (replicate count []) n [] ≡ []
+pub none_in : {A : Type 0} (count n : ℕ) → get_or {A = List A} (replicate count []) n [] ≡ []
 none_in zero n = refl
 none_in (suc count) zero = refl
 none_in (suc count) (suc n) = none_in count n
@@ -110,8 +110,8 @@ none_vacant : (count : ℕ) → vacancies (replicate count []) ≡ 0
 none_vacant zero = refl
 none_vacant (suc count) = none_vacant count
 
-pub kept_empty : (at : Slot → Option Node) (spare : ℕ) (queues : List Queue) (slots : Slots) (sets : List NumberSet) (count : ℕ) → slots ≡ replicate count [] → AllByRecursion IsEmptyQueue queues → length sets ≡ length queues → ((n place : ℕ) → place < length queues → in_set (get_or sets place no_set) n ≡ false) → AreKept at spare queues slots sets
-kept_empty at spare queues slots sets count is empty sets_count none =
+pub kept_empty : (at : Slot → Option Node) (spare : ℕ) (queues : List Queue) (slots : Slots) (sets : List PlaceSet) (count : ℕ) → slots ≡ replicate count [] → AllByRecursion IsEmptyQueue queues → length queues ≤ 384 → ((n place : ℕ) → is_marked sets n place ≡ false) → AreKept at spare queues slots sets
+kept_empty at spare queues slots sets count is empty few none =
     let unit : (n : ℕ) → get_or slots n [] ≡ [] = λ n. ap (λ (s : Slots). get_or s n []) is ∙ none_in count n in
     let read : (n k : ℕ) → slot_in slots n k ≡ None = λ n k. ap (λ (r : List (Option Slot)). get_or r k None) (unit n) in
     record {
@@ -122,13 +122,13 @@ kept_empty at spare queues slots sets count is empty sets_count none =
       apart = λ p o h g d s e f i j. absurd i;
       room = let z : vacancies slots ≡ 0 = ap vacancies is ∙ none_vacant count in omega (arith, z);
       full = λ n. inl (ap length (unit n));
-      set_count = sets_count;
-      marked = λ n p h. none n p h ∙ sym (ap is_some (read n p));
+      few = few;
+      marked = λ n p h. none n p ∙ sym (ap is_some (read n p));
     }
 
--- what is left of alike units when the last is taken
-pub last_unit : (left rest : List (Vec ℕ)) (v : Vec ℕ) (y : List ℕ) → left ≡ rest ++ v ∷ [] → numbers_of left ≡ replicate (length left) y → (numbers_of rest ≡ replicate (length rest) y) × (v.items ≡ y)
-last_unit left rest v y e h = same_from_push (numbers_of rest) (replicate (length rest) y) v.items y (sym (map_push (λ (u : Vec ℕ). u.items) rest v) ∙ sym (ap numbers_of e) ∙ h ∙ ap (λ (n : ℕ). replicate n y) (ap length e ∙ length_push rest v) ∙ sym (replicate_more (length rest) y))
+-- what is left of alike rows when the last is taken
+pub last_row : (left rest : List (Vec ℕ)) (v : Vec ℕ) (y : List ℕ) → left ≡ rest ++ v ∷ [] → rows_of left ≡ replicate (length left) y → (rows_of rest ≡ replicate (length rest) y) × (v.items ≡ y)
+last_row left rest v y e h = same_from_push (rows_of rest) (replicate (length rest) y) v.items y (sym (map_push (λ (u : Vec ℕ). u.items) rest v) ∙ sym (ap rows_of e) ∙ h ∙ ap (λ (n : ℕ). replicate n y) (ap length e ∙ length_push rest v) ∙ sym (replicate_more (length rest) y))
 
 pub units_are : all_units ≡ 2048
 unfolding all_units

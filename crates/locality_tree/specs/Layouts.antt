@@ -1,5 +1,5 @@
 -- How a tree lays out its units and queues. No public clause cites this module.
-use Rattle.std.specs.Prelude.{◌≡◌, ◌≢◌, ℕ, zero, suc, ◌+◌, ◌<◌, ◌≤◌, Bool, true, false, cond, List, [], ◌∷◌, length, map, replicate, Option, Some, None, is_some, ◌⊎◌}
+use Rattle.std.specs.Prelude.{◌≡◌, ◌≢◌, ℕ, zero, suc, ◌+◌, ◌-◌, ◌<◌, ◌≤◌, Bool, true, false, cond, List, [], ◌∷◌, ◌++◌, length, map, replicate, Option, Some, None, is_some, ◌⊎◌}
 use Rattle.std.specs.Global.{Vec}
 use Rattle.std.specs.List.{sum_by, count_by}
 use Rattle.std.specs.Option.{is_none}
@@ -13,9 +13,10 @@ use Rattle.wait_queue.specs.declared.node.Node.{Node}
 use Rattle.wait_queue.specs.declared.queue.Queue.{Queue}
 use Rattle.wait_queue.specs.Queues.{Item, Stands, entry_at}
 use Rattle.locality_tree.specs.declared.layout.Layout.{Layout}
-use Rattle.locality_tree.specs.declared.number_set.NumberSet.{NumberSet}
+use Rattle.locality_tree.specs.declared.layout.UnitSlots.{UnitSlots}
+use Rattle.locality_tree.specs.declared.place_set.PlaceSet.{PlaceSet}
 use Rattle.locality_tree.specs.Trees.{UnitState, TreeRecord, unit_number, all_units, place_count, cluster_place}
-use Rattle.locality_tree.specs.NumberSets.{in_set, no_set}
+use Rattle.locality_tree.specs.PlaceSets.{is_marked}
 
 -- what the units have at their places, by the unit's number and then by place
 abbrev pub Places : Type 0 → Type 0
@@ -42,9 +43,16 @@ with_places x rows first places (suc n) = set (with_places x rows first places n
 abbrev pub with_vacant : Slots → ℕ → ℕ → ℕ → Slots
 with_vacant slots first places n = with_places None slots first places n
 
--- the numbers that are noted for the units
-abbrev pub numbers_of : List (Vec ℕ) → Places ℕ
-numbers_of units = map (λ v. v.items) units
+abbrev pub rows_of : List (Vec ℕ) → Places ℕ
+rows_of rows = map (λ v. v.items) rows
+
+-- the numbers that are noted of all units: what is beyond the list has no place
+abbrev pub numbers_of : List UnitSlots → Places ℕ
+numbers_of units = map (λ u. u.numbers.items) units ++ replicate (all_units - length units) []
+
+-- the sets of the places at which the units stand
+abbrev pub sets_of : List UnitSlots → List PlaceSet
+sets_of units = map (λ u. u.places) units
 
 -- the slot of a number in its present generation, where there is one
 abbrev pub slot_under : PoolRecord Node → Bool → ℕ → Option Slot
@@ -56,12 +64,12 @@ abbrev pub by_place : {A B : Type 0} → (ℕ → A → B) → ℕ → List A �
 by_place see k [] = []
 by_place see k (x ∷ xs) = see k x ∷ by_place see (suc k) xs
 
--- Of a slot its number alone is noted. A unit has one where it is in the set of the place; that is live, so its generation is the present one.
-abbrev pub slots_seen : PoolRecord Node → List NumberSet → Places ℕ → Slots
-slots_seen pool sets rows = by_place (λ n row. by_place (λ k x. slot_under pool (in_set (get_or sets k no_set) n) x) 0 row) 0 rows
+-- Of a slot its number alone is noted. A unit has one where the place is in its set; that is live, so its generation is the present one.
+abbrev pub slots_seen : PoolRecord Node → List PlaceSet → Places ℕ → Slots
+slots_seen pool sets rows = by_place (λ n row. by_place (λ k x. slot_under pool (is_marked sets n k) x) 0 row) 0 rows
 
 abbrev pub slots_of : Layout → Slots
-slots_of p = slots_seen p.pool p.sets.items (numbers_of p.slots.items)
+slots_of p = slots_seen p.pool (sets_of p.slots.items) (numbers_of p.slots.items)
 
 abbrev pub number_of : Entry → ℕ
 number_of e = unit_number e.app.0 e.unit.0
@@ -95,17 +103,17 @@ pub record IsQueueAt (at : Slot → Option Node) (q : Queue) (slots : Slots) (pl
   pub all : (n : ℕ) (s : Slot) → slot_in slots n place ≡ Some s → (e : Entry) × In (s, e) items × (number_of e ≡ n)
 
 -- What is always so of a pool, the queues that stand in it, the slots that units have there, and the sets of these units.
-pub record AreKept (at : Slot → Option Node) (spare : ℕ) (queues : List Queue) (slots : Slots) (sets : List NumberSet) : Type 0 where
+pub record AreKept (at : Slot → Option Node) (spare : ℕ) (queues : List Queue) (slots : Slots) (sets : List PlaceSet) : Type 0 where
   pub lists : ℕ → List Item
   pub queues_stand : (place : ℕ) (q : Queue) → place < length queues → IsQueueAt at (get_or queues place q) slots place (lists place)
   pub apart : (place other : ℕ) → place < length queues → other < length queues → place ≢ other → AreApart (lists place) (lists other)
   pub room : vacancies slots ≤ spare
   pub full : (n : ℕ) → (length (get_or slots n []) ≡ 0) ⊎ (length (get_or slots n []) ≡ length queues)
-  pub set_count : length sets ≡ length queues
-  pub marked : (n place : ℕ) → place < length queues → in_set (get_or sets place no_set) n ≡ is_some (slot_in slots n place)
+  pub few : length queues ≤ 384
+  pub marked : (n place : ℕ) → place < length queues → is_marked sets n place ≡ is_some (slot_in slots n place)
 
 abbrev pub AreKeptIn : Layout → Type 0
-AreKeptIn p = AreKept (value_at p.pool) p.pool.spare p.queues.items (slots_of p) p.sets.items
+AreKeptIn p = AreKept (value_at p.pool) p.pool.spare p.queues.items (slots_of p) (sets_of p.slots.items)
 
 -- an entry of which the unit is admitted, which is its unit's wherever that stands, and has no other's turn
 pub record EntryFits (at : Slot → Option Node) (count : ℕ) (slots : Slots) (e : Entry) (place : ℕ) : Type 0 where
@@ -148,11 +156,15 @@ pub record Admits (old new : Layout) (first units : ℕ) : Type 0 where
   pub slots : slots_of new ≡ with_vacant (slots_of old) first (length old.queues.items) units
   pub same : SameSlots old.pool new.pool
 
--- one unit is in the set of a place or is not, and nothing else changes
-pub record IsNoted (olds news : List NumberSet) (place n : ℕ) (stands : Bool) : Type 0 where
-  pub count : length news ≡ length olds
-  pub here : in_set (get_or news place no_set) n ≡ stands
-  pub others : (m k : ℕ) → (m ≡ n → k ≡ place → ⊥) → in_set (get_or news k no_set) m ≡ in_set (get_or olds k no_set) m
+-- one place is in the set of a unit or is not, and nothing else changes
+pub record IsNoted (olds news : List PlaceSet) (n place : ℕ) (stands : Bool) : Type 0 where
+  pub here : is_marked news n place ≡ stands
+  pub others : (m k : ℕ) → (m ≡ n → k ≡ place → ⊥) → is_marked news m k ≡ is_marked olds m k
+
+-- there may be more units than before, without a place
+pub record IsGrown (olds news : List UnitSlots) : Type 0 where
+  pub numbers : numbers_of news ≡ numbers_of olds
+  pub sets : (n k : ℕ) → is_marked (sets_of news) n k ≡ is_marked (sets_of olds) n k
 
 abbrev pub state_of : (Slot → Option Node) → ℕ → List (Option Slot) → UnitState
 state_of at last places = record { entry = entry_in at (get_or places last None); stands = map is_some places }
@@ -173,6 +185,6 @@ pub record IsTree (racks : List ℕ) (p : Layout) : Type 0 where
   pub machines : length racks ≤ most_machines
   pub in_racks : (m : ℕ) → m < length racks → get_or racks m 0 < most_racks
   pub queue_count : length p.queues.items ≡ place_count racks
-  pub unit_count : length p.slots.items ≡ all_units
+  pub unit_count : length (slots_of p) ≡ all_units
   pub one_entry : (n k : ℕ) (e : Entry) → entry_in (value_at p.pool) (slot_in (slots_of p) n k) ≡ Some e → IsOwn (value_at p.pool) (slots_of p) (cluster_place racks) n e
   pub turns : (n m : ℕ) (e f : Entry) → entry_in (value_at p.pool) (slot_in (slots_of p) n (cluster_place racks)) ≡ Some e → entry_in (value_at p.pool) (slot_in (slots_of p) m (cluster_place racks)) ≡ Some f → e.turn ≡ f.turn → n ≡ m

@@ -1,4 +1,4 @@
 pub mod Layouts
 pub mod Paths
 pub mod Trees
-pub mod NumberSets
+pub mod PlaceSets

@@ -1,5 +1,5 @@
 -- What a walk over three queues has left.
-use Rattle.std.specs.Prelude.{◌≡◌, ℕ, ◌&&◌, ◌||◌, ⊤, Bool, true, false, not, cond, nat_lt, List, [], ◌∷◌, ◌++◌, Option, Some, None}
+use Rattle.std.specs.Prelude.{◌≡◌, ℕ, ◌&&◌, ◌||◌, ◌<◌, ⊤, Bool, true, false, not, cond, nat_lt, List, [], ◌∷◌, ◌++◌, Option, Some, None}
 use Rattle.std.specs.Option.{option_map}
 use Rattle.fuxi_terms.proofs.Members.{In}
 use Rattle.slot_pool.specs.Pools.{value_at}
@@ -9,14 +9,14 @@ use Rattle.wait_queue.specs.declared.node.Node.{Node}
 use Rattle.wait_queue.specs.declared.queue.Queue.{Queue}
 use Rattle.wait_queue.specs.Queues.{Item, Stands, first_of}
 use Rattle.locality_tree.specs.declared.path.Path.{Path}
-use Rattle.locality_tree.specs.declared.number_set.NumberSet.{NumberSet}
+use Rattle.locality_tree.specs.declared.place_set.PlaceSet.{PlaceSet}
 use Rattle.locality_tree.specs.Trees.{RankedEntry, IsRanked}
-use Rattle.locality_tree.specs.Layouts.{HasNumber, number_of, entry_in}
-use Rattle.locality_tree.specs.NumberSets.{in_set}
+use Rattle.locality_tree.specs.Layouts.{HasNumber, number_of, entry_in, sets_of}
+use Rattle.locality_tree.specs.PlaceSets.{is_marked}
 
--- whether the entry's unit is in one of two sets
-abbrev pub is_in_either : NumberSet → NumberSet → Entry → Bool
-is_in_either one other e = in_set one (number_of e) || in_set other (number_of e)
+-- whether the entry's unit stands at one of two places
+abbrev pub is_at_either : List PlaceSet → ℕ → ℕ → Entry → Bool
+is_at_either sets one other e = is_marked sets (number_of e) one || is_marked sets (number_of e) other
 
 abbrev pub nothing : Entry → Bool
 nothing e = false
@@ -74,9 +74,9 @@ pub record IsRanking (pairs all : List RankedEntry) : Type 0 where
   pub complete : (p : RankedEntry) → In p all → In p pairs
 
 -- the pairs of three queues: each unit at the first level where it is
-abbrev pub pairs_of : NumberSet → NumberSet → List Item → List Item → List Item → List RankedEntry
-pairs_of near_set rack_set near rack cluster =
-    unskipped nothing 0 near ++ (unskipped (is_in_either near_set near_set) 1 rack ++ unskipped (is_in_either near_set rack_set) 2 cluster)
+abbrev pub pairs_of : List PlaceSet → ℕ → ℕ → List Item → List Item → List Item → List RankedEntry
+pairs_of sets near_place rack_place near rack cluster =
+    unskipped nothing 0 near ++ (unskipped (is_at_either sets near_place near_place) 1 rack ++ unskipped (is_at_either sets near_place rack_place) 2 cluster)
 
 -- A path has these pairs left.
 pub record Leads (p : Path) (pairs : List RankedEntry) : Type 0 where
@@ -86,9 +86,11 @@ pub record Leads (p : Path) (pairs : List RankedEntry) : Type 0 where
   pub at_near : IsTail (value_at p.pool.now) p.near.now p.at_near near
   pub at_rack : IsTail (value_at p.pool.now) p.rack.now p.at_rack rack
   pub at_cluster : IsTail (value_at p.pool.now) p.cluster.now p.at_cluster cluster
-  pub rack_stops : Stops (is_in_either p.near_set.now p.near_set.now) rack
-  pub cluster_stops : Stops (is_in_either p.near_set.now p.rack_set.now) cluster
-  pub ranking : IsRanking pairs (pairs_of p.near_set.now p.rack_set.now near rack cluster)
+  pub near_inside : p.near_place < 384
+  pub rack_inside : p.rack_place < 384
+  pub rack_stops : Stops (is_at_either (sets_of p.units.now) p.near_place p.near_place) rack
+  pub cluster_stops : Stops (is_at_either (sets_of p.units.now) p.near_place p.rack_place) cluster
+  pub ranking : IsRanking pairs (pairs_of (sets_of p.units.now) p.near_place p.rack_place near rack cluster)
 
 -- a path has some pairs left, be it none
 pub record IsWalkable (p : Path) : Type 0 where

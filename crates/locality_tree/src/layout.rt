@@ -4,29 +4,32 @@ ghost use Rattle.std.specs.Prelude.{◌≡◌, ℕ, ◌+◌, ◌*◌, ◌^◌, �
 ghost use Rattle.std.specs.List.{AllByRecursion};
 ghost use Rattle.std.proofs.Common.{get_or};
 ghost use Rattle.locality_tree.specs.Trees.{all_units};
-ghost use Rattle.locality_tree.specs.NumberSets.{in_set, no_set};
-ghost use Rattle.locality_tree.specs.Layouts.{slots_of, numbers_of, number_in, slot_in, with_slot, with_places, number_of, HasNumber, IsEmptyQueue, AreKeptIn, EntryFitsIn, TurnedIn, LeftIn, Admits, IsNoted};
+ghost use Rattle.locality_tree.specs.Layouts.{slots_of, rows_of, numbers_of, sets_of, number_in, slot_in, with_slot, with_places, number_of, HasNumber, IsEmptyQueue, AreKeptIn, EntryFitsIn, TurnedIn, LeftIn, Admits, IsNoted, IsGrown};
 
-use crate::number_set::NumberSet;
+use crate::place_set::PlaceSet;
 use fuxi_terms::OutOfMemory;
-use fuxi_terms::limits::{MOST_JOBS, MOST_UNITS};
+use fuxi_terms::limits::MOST_UNITS;
 use slot_pool::{Pool, Slot};
 use std::alloc::Global;
 use wait_queue::{Entry, Node, Queue, law};
 
-/// The numbers of one unit's slots, by place. They count only where the unit is in the set of the place; there
-/// the slot is live, so the pool knows its generation.
-pub(crate) type UnitSlots = Vec<u32>;
+/// Where one unit stands. A number counts only where the place is in the set; there the slot is live, so the
+/// pool knows its generation.
+#[derive(Drop)]
+pub(crate) struct UnitSlots {
+    /// The numbers of its slots, by place. Of a unit that is not admitted there is none.
+    pub(crate) numbers: Vec<u32>,
+    /// The places at which it stands.
+    pub(crate) places: PlaceSet,
+}
 
 /// The queues by place: one for each machine, one for each of 64 racks, and the cluster's.
 #[derive(Drop)]
 pub(crate) struct Layout {
     pub(crate) pool: Pool<Node>,
     pub(crate) queues: Vec<Queue>,
-    /// By the unit's number.
+    /// By the unit's number, as far as a unit was admitted.
     pub(crate) slots: Vec<UnitSlots>,
-    /// By place: the units that stand there.
-    pub(crate) sets: Vec<NumberSet>,
 }
 
 /// The number of the entry's unit among all units.
@@ -42,44 +45,29 @@ fn number_in(slots: &[UnitSlots], number: usize, place: usize) -> u32
     requires { place < length (get_or (numbers_of slots.now) number []) }
     ensures { result ≡ number_in (numbers_of slots.now) number place }
 {
-    let places = &slots[number];
-    places[place]
-}
-
-/// The first place from one on at which a unit stands, and the end where it stands at none before it.
-fn first_place(sets: &[NumberSet], number: usize, from: usize, end: usize) -> usize
-    requires order { from ≤ end }
-    requires inside { end ≤ length sets.now }
-    requires number { number < 2048 }
-    ensures least { from ≤ result }
-    ensures inside { result ≤ end }
-    ensures between { (k : ℕ) → from ≤ k → k < result → in_set (get_or sets.now k no_set) number ≡ false }
-{
-    for place in from..end {
-        if sets[place].contains(number) {
-            return place;
-        }
-    }
-    end
+    let unit = &slots[number];
+    unit.numbers[place]
 }
 
 /// Notes the number of a unit's slot at a place.
 fn note_slot(slots: &mut Vec<UnitSlots>, number: usize, place: usize, slot: u32)
     requires { place < length (get_or (numbers_of slots.old.items) number []) }
-    ensures { numbers_of slots.new.items ≡ with_slot (numbers_of slots.old.items) number place slot }
+    ensures numbers { numbers_of slots.new.items ≡ with_slot (numbers_of slots.old.items) number place slot }
+    ensures sets { sets_of slots.new.items ≡ sets_of slots.old.items }
 {
-    let places = &mut slots[number];
-    places[place] = slot;
+    let unit = &mut slots[number];
+    unit.numbers[place] = slot;
 }
 
 /// Notes whether a unit stands at a place.
-fn note_unit(sets: &mut Vec<NumberSet>, place: usize, number: usize, stands: bool)
-    requires place { place < length sets.old.items }
-    requires number { number < 2048 }
-    ensures { IsNoted sets.old.items sets.new.items place number stands }
+fn note_unit(slots: &mut Vec<UnitSlots>, number: usize, place: usize, stands: bool)
+    requires number { number < length slots.old.items }
+    requires place { place < 384 }
+    ensures numbers { numbers_of slots.new.items ≡ numbers_of slots.old.items }
+    ensures sets { IsNoted (sets_of slots.old.items) (sets_of slots.new.items) number place stands }
 {
-    let set = &mut sets[place];
-    set.set(number, stands);
+    let unit = &mut slots[number];
+    unit.places.set(place, stands);
 }
 
 /// So many empty queues.
@@ -94,26 +82,45 @@ fn empty_queues(alloc: Global, count: usize) -> Result<Vec<Queue>, OutOfMemory>
     Ok(queues)
 }
 
-/// So many units, each with so many places at none of which it stands.
-fn vacant_units(alloc: Global, count: usize, places: usize) -> Result<Vec<UnitSlots>, OutOfMemory>
-    ensures { IfOk result (λ units. numbers_of units.items ≡ replicate count (replicate places 0)) }
+/// The numbers of so many units, each with so many places at none of which it stands.
+fn vacant_units(alloc: Global, count: usize, places: usize) -> Result<Vec<Vec<u32>>, OutOfMemory>
+    ensures { IfOk result (λ rows. rows_of rows.items ≡ replicate count (replicate places 0)) }
 {
-    let mut units = Vec::with_capacity(alloc, count)?;
+    let mut rows = Vec::with_capacity(alloc, count)?;
     for _ in 0..count {
-        units.push(Vec::from_elem(alloc, 0, places)?)?;
+        rows.push(Vec::from_elem(alloc, 0, places)?)?;
     }
-    Ok(units)
+    Ok(rows)
 }
 
-/// The units from the first on get these places.
-fn put_units(slots: &mut Vec<UnitSlots>, first: usize, units: Vec<UnitSlots>)
-    requires inside { first + length units.items ≤ length slots.old.items }
-    ensures { (places : ℕ) → numbers_of units.items ≡ replicate (length units.items) (replicate places 0) → numbers_of slots.new.items ≡ with_places 0 (numbers_of slots.old.items) first places (length units.items) }
+/// Makes the units so many at least. Those that are new have no place.
+fn grow(slots: &mut Vec<UnitSlots>, alloc: Global, count: usize) -> Result<(), OutOfMemory>
+    requires { count ≤ all_units }
+    ensures grown { IsGrown slots.old.items slots.new.items }
+    ensures ok { OnOk result (count ≤ length slots.new.items) }
 {
-    let mut left = units;
+    while slots.len() < count {
+        slots.push(UnitSlots {
+            numbers: Vec::new(alloc),
+            places: PlaceSet::new(),
+        })?;
+    }
+    Ok(())
+}
+
+/// The units from the first on get these numbers.
+fn put_numbers(slots: &mut Vec<UnitSlots>, first: usize, rows: Vec<Vec<u32>>)
+    requires inside { first + length rows.items ≤ length slots.old.items }
+    ensures numbers { (places : ℕ) → rows_of rows.items ≡ replicate (length rows.items) (replicate places 0) → numbers_of slots.new.items ≡ with_places 0 (numbers_of slots.old.items) first places (length rows.items) }
+    ensures sets { sets_of slots.new.items ≡ sets_of slots.old.items }
+{
+    let mut left = rows;
     for index in 0..left.len() {
         match left.pop() {
-            Some(places) => slots[first + index] = places,
+            Some(numbers) => {
+                let unit = &mut slots[first + index];
+                unit.numbers = numbers;
+            }
             None => unreachable!(),
         }
     }
@@ -122,6 +129,7 @@ fn put_units(slots: &mut Vec<UnitSlots>, first: usize, units: Vec<UnitSlots>)
 impl Layout {
     /// So many empty queues, and no unit that has places.
     pub(crate) fn start(alloc: Global, count: usize) -> Result<Layout, OutOfMemory>
+        requires { count ≤ 384 }
         ensures kept { IfOk result AreKeptIn }
         ensures count { IfOk result (λ layout. length layout.queues.items ≡ count) }
         ensures slots { IfOk result (λ layout. slots_of layout ≡ replicate all_units []) }
@@ -129,8 +137,7 @@ impl Layout {
         Ok(Layout {
             pool: Pool::with_room(alloc, 0)?,
             queues: empty_queues(alloc, count)?,
-            slots: vacant_units(alloc, MOST_JOBS as usize * MOST_UNITS, 0)?,
-            sets: Vec::from_elem(alloc, NumberSet::new(), count)?,
+            slots: Vec::new(alloc),
         })
     }
 
@@ -150,7 +157,7 @@ impl Layout {
         let queue = &mut self.queues[place];
         let slot = queue.insert(&mut self.pool, *entry);
         note_slot(&mut self.slots, number, place, slot.number);
-        note_unit(&mut self.sets, place, number, true);
+        note_unit(&mut self.slots, number, place, true);
     }
 
     /// The unit stands no more at a place where it has this slot.
@@ -167,7 +174,7 @@ impl Layout {
         let number = number_of(entry);
         let queue = &mut self.queues[place];
         queue.remove(&mut self.pool, slot);
-        note_unit(&mut self.sets, place, number, false);
+        note_unit(&mut self.slots, number, place, false);
     }
 
     /// Whether the unit stands at the place.
@@ -176,7 +183,8 @@ impl Layout {
         requires fits { EntryFitsIn self.now entry.now place }
         ensures { result ≡ is_some (slot_in (slots_of self.now) (number_of entry.now) place) }
     {
-        self.sets[place].contains(number_of(entry))
+        let unit = &self.slots[number_of(entry)];
+        unit.places.contains(place)
     }
 
     /// The slot of a unit that stands at a place.
@@ -221,7 +229,8 @@ impl Layout {
         let places = self.queues.len();
         let mut next = 0;
         while next < places {
-            let place = first_place(&self.sets, number_of(entry), next, places);
+            let unit = &self.slots[number_of(entry)];
+            let place = unit.places.next(next);
             if place >= places {
                 return;
             }
@@ -230,8 +239,8 @@ impl Layout {
         }
     }
 
-    /// The units of a job, from this number on, get places, and room for a node at each. The layout is as before
-    /// after the refusal.
+    /// The units of a job, from this number on, get places, and room for a node at each. After the refusal the
+    /// layout is seen as before: there may be more units, but none of them has a place.
     pub(crate) fn admit(
         &mut self,
         alloc: Global,
@@ -239,21 +248,23 @@ impl Layout {
         units: usize,
     ) -> Result<(), OutOfMemory>
         requires kept { AreKeptIn self.old }
-        requires inside { first + units ≤ length self.old.slots.items }
+        requires all { length (slots_of self.old) ≡ all_units }
+        requires inside { first + units ≤ all_units }
         requires few { units * length self.old.queues.items < 2 ^ 64 }
         requires new { (k : ℕ) → k < units → length (get_or (slots_of self.old) (first + k) []) ≡ 0 }
         ensures ok { OnOk result (Admits self.old self.new first units) }
-        ensures err { OnErr result (self.new ≡ self.old) }
+        ensures err { OnErr result (Admits self.old self.new first 0) }
     {
         law::standing_lists();
+        grow(&mut self.slots, alloc, first + units)?;
         let places = self.queues.len();
-        let fresh = vacant_units(alloc, units, places)?;
+        let rows = vacant_units(alloc, units, places)?;
         let room = match self.pool.spare().checked_add(units * places) {
             Some(room) => room,
             None => return Err(OutOfMemory),
         };
         self.pool.reserve(room)?;
-        put_units(&mut self.slots, first, fresh);
+        put_numbers(&mut self.slots, first, rows);
         Ok(())
     }
 }

@@ -4,8 +4,8 @@
 #![tactic(auto)]
 
 mod layout;
-mod number_set;
 mod path;
+mod place_set;
 mod tree;
 
 pub use path::Path;

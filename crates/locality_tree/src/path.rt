@@ -1,17 +1,14 @@
 //! The walk over the units that wait, as one machine ranks them.
 
 ghost use Rattle.std.specs.Prelude.{◌≡◌, ◌-◌, ◌<◌, List, length, IsSome, IfSome, Some, ◌++◌, ◌∷◌};
-ghost use Rattle.std.proofs.Common.{get_or};
 ghost use Rattle.slot_pool.specs.Pools.{value_at};
 ghost use Rattle.wait_queue.specs.declared.node.Entry.{Entry as EntryRecord};
 ghost use Rattle.wait_queue.specs.Queues.{Item, Stands, IsIn, first_of, entry_at};
 ghost use Rattle.locality_tree.specs.Trees.{RankedEntry};
-ghost use Rattle.locality_tree.specs.NumberSets.{no_set};
-ghost use Rattle.locality_tree.specs.Layouts.{HasNumber, AreKeptIn};
-ghost use Rattle.locality_tree.specs.Paths.{Leads, Gives, IsWalkable, IsTail, HasTail, SkipsTo, IsRanking, is_in_either, priority_in, at_most, is_best, pairs_of};
+ghost use Rattle.locality_tree.specs.Layouts.{HasNumber, AreKeptIn, sets_of};
+ghost use Rattle.locality_tree.specs.Paths.{Leads, Gives, IsWalkable, IsTail, HasTail, SkipsTo, IsRanking, is_at_either, priority_in, at_most, is_best, pairs_of};
 
-use crate::layout::{Layout, number_of};
-use crate::number_set::NumberSet;
+use crate::layout::{Layout, UnitSlots, number_of};
 use slot_pool::{Pool, Slot};
 use wait_queue::{Entry, Node, Queue, law};
 
@@ -19,8 +16,9 @@ use wait_queue::{Entry, Node, Queue, law};
 #[derive(Drop)]
 pub struct Path<'a> {
     pool: &'a Pool<Node>,
-    near_set: &'a NumberSet,
-    rack_set: &'a NumberSet,
+    units: &'a [UnitSlots],
+    near_place: usize,
+    rack_place: usize,
     near: &'a Queue,
     rack: &'a Queue,
     cluster: &'a Queue,
@@ -37,31 +35,40 @@ fn entry_of(pool: &Pool<Node>, slot: Slot) -> &Entry
     pool.get(slot).entry()
 }
 
-/// Whether the entry's unit is in one of two sets.
-fn is_in_either(one: &NumberSet, other: &NumberSet, entry: &Entry) -> bool
-    requires { HasNumber entry.now }
-    ensures { result ≡ is_in_either one.now other.now entry.now }
+/// Whether the entry's unit stands at one of two places.
+fn is_at_either(units: &[UnitSlots], one: usize, other: usize, entry: &Entry) -> bool
+    requires number { HasNumber entry.now }
+    requires one { one < 384 }
+    requires other { other < 384 }
+    ensures { result ≡ is_at_either (sets_of units.now) one other entry.now }
 {
     let number = number_of(entry);
-    one.contains(number) || other.contains(number)
+    if number >= units.len() {
+        return false;
+    }
+    let unit = &units[number];
+    unit.places.contains(one) || unit.places.contains(other)
 }
 
-/// The first slot from this one on whose unit is in neither set.
+/// The first slot from this one on whose unit stands at neither place.
 fn skip(
     pool: &Pool<Node>,
     queue: &Queue,
-    one: &NumberSet,
-    other: &NumberSet,
+    units: &[UnitSlots],
+    one: usize,
+    other: usize,
     from: Option<Slot>,
 ) -> Option<Slot>
-    requires { HasTail (value_at pool.now) queue.now from }
-    ensures { (tail : List Item) → IsTail (value_at pool.now) queue.now from tail → SkipsTo (value_at pool.now) queue.now (is_in_either one.now other.now) tail result }
+    requires from { HasTail (value_at pool.now) queue.now from }
+    requires one { one < 384 }
+    requires other { other < 384 }
+    ensures { (tail : List Item) → IsTail (value_at pool.now) queue.now from tail → SkipsTo (value_at pool.now) queue.now (is_at_either (sets_of units.now) one other) tail result }
 {
     law::standing_lists();
     law::orders();
     let mut at = from;
     while let Some(slot) = at {
-        if !is_in_either(one, other, entry_of(pool, slot)) {
+        if !is_at_either(units, one, other, entry_of(pool, slot)) {
             return at;
         }
         at = queue.after(pool, slot);
@@ -117,11 +124,10 @@ impl<'a> Path<'a> {
         requires near { near_place < length layout.now.queues.items }
         requires rack { rack_place < length layout.now.queues.items }
         requires kept { AreKeptIn layout.now }
-        ensures { (kept : AreKeptIn layout.now) (pairs : List RankedEntry) → IsRanking pairs (pairs_of (get_or layout.now.sets.items near_place no_set) (get_or layout.now.sets.items rack_place no_set) (kept.lists near_place) (kept.lists rack_place) (kept.lists (length layout.now.queues.items - 1))) → Leads result pairs }
+        ensures { (kept : AreKeptIn layout.now) (pairs : List RankedEntry) → IsRanking pairs (pairs_of (sets_of layout.now.slots.items) near_place rack_place (kept.lists near_place) (kept.lists rack_place) (kept.lists (length layout.now.queues.items - 1))) → Leads result pairs }
     {
         let pool = &layout.pool;
-        let near_set = &layout.sets[near_place];
-        let rack_set = &layout.sets[rack_place];
+        let units: &[UnitSlots] = &layout.slots;
         let near = &layout.queues[near_place];
         let rack = &layout.queues[rack_place];
         let last = layout.queues.len() - 1;
@@ -129,12 +135,13 @@ impl<'a> Path<'a> {
         let at_near = near.first();
         let first_rack = rack.first();
         let first_cluster = cluster.first();
-        let at_rack = skip(pool, rack, near_set, near_set, first_rack);
-        let at_cluster = skip(pool, cluster, near_set, rack_set, first_cluster);
+        let at_rack = skip(pool, rack, units, near_place, near_place, first_rack);
+        let at_cluster = skip(pool, cluster, units, near_place, rack_place, first_cluster);
         Path {
             pool,
-            near_set,
-            rack_set,
+            units,
+            near_place,
+            rack_place,
             near,
             rack,
             cluster,
@@ -171,7 +178,8 @@ impl<'a> Path<'a> {
                 None => return None,
             };
             let (entry, behind) = take(self.pool, self.rack, slot);
-            self.at_rack = skip(self.pool, self.rack, self.near_set, self.near_set, behind);
+            let place = self.near_place;
+            self.at_rack = skip(self.pool, self.rack, self.units, place, place, behind);
             return Some((entry, 1));
         }
         let slot = match self.at_cluster {
@@ -182,8 +190,9 @@ impl<'a> Path<'a> {
         self.at_cluster = skip(
             self.pool,
             self.cluster,
-            self.near_set,
-            self.rack_set,
+            self.units,
+            self.near_place,
+            self.rack_place,
             behind,
         );
         Some((entry, 2))

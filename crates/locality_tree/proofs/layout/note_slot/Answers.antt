@@ -1,12 +1,18 @@
-use Rattle.std.proofs.Common.{ℕ, ◌<◌, length, List, [], set, sym, ap, ◌∙◌, arith}
-use Rattle.std.proofs.lemmas.List.{map-set, get_or-map, length-map}
+use Rattle.std.proofs.Common.{ℕ, List, set, sym, ap, ◌∙◌}
 use Rattle.locality_tree.specs.Layouts.{numbers_of}
-use Rattle.locality_tree.proofs.LayoutsLemmas.{unit_inside}
+use Rattle.locality_tree.proofs.UnitsLemmas.{unit_listed, numbers_set, sets_set, numbers_at, same_sets}
 use Rattle.locality_tree.proofs.layout.note_slot.Goals as goal
 
-pub returns : goal.returns
-returns c =
+pub returns-clause-numbers : goal.returns-clause-numbers
+returns-clause-numbers c =
     let units = c.args.slots.now.items in
-    let inside : c.args.number < length units = omega (arith, unit_inside (numbers_of units) c.args.number c.args.place c.requires, length-map units (λ v. v.items)) in
-    map-set (λ v. v.items) units c.args.number _
-    ∙ ap (λ (r : List ℕ). set (numbers_of units) c.args.number (set r c.args.place c.args.slot)) (sym (get_or-map (λ v. v.items) units c.args.number c.index_mut-places.result.now [] inside ∙ ap (λ v. v.items) (sym c.index_mut-places.ensures.value)))
+    let n : ℕ = c.args.number in
+    let inside = unit_listed units n c.args.place c.requires in
+    numbers_set units n _ inside ∙ ap (λ (row : List ℕ). set (numbers_of units) n (set row c.args.place c.args.slot)) (sym (numbers_at units n c.index_mut-unit.result.now inside c.index_mut-unit.ensures.value))
+
+pub returns-clause-sets : goal.returns-clause-sets
+returns-clause-sets c =
+    let units = c.args.slots.now.items in
+    let n : ℕ = c.args.number in
+    let inside = unit_listed units n c.args.place c.requires in
+    sets_set units n _ inside ∙ same_sets units n c.index_mut-unit.result.now inside c.index_mut-unit.ensures.value

@@ -25,8 +25,8 @@ returns-then-leads-clause-goes_on c = goes_on _ c.requires.pairs _ (returns-then
 pub take-behind-requires-then-leads-2 : goal.take-behind-requires-then-leads-2
 take-behind-requires-then-leads-2 c = in_of c.standing_lists.ensures.entries _ _ _ _ c.in-Some-at_rack.slot c.requires.leads.at_rack c.in-Some-at_rack.is
 
-pub skip-self-requires : goal.skip-self-requires
-skip-self-requires c = tail_behind c.standing_lists.ensures.entries _ _ _ _ c.in-Some-at_rack.slot _ c.requires.leads.at_rack c.in-Some-at_rack.is c.take-behind-then-leads-2.ensures.behind
+pub skip-self-requires-clause-from : goal.skip-self-requires-clause-from
+skip-self-requires-clause-from c = tail_behind c.standing_lists.ensures.entries _ _ _ _ c.in-Some-at_rack.slot _ c.requires.leads.at_rack c.in-Some-at_rack.is c.take-behind-then-leads-2.ensures.behind
 
 pub returns-then-leads-2-clause-gives : goal.returns-then-leads-2-clause-gives
 returns-then-leads-2-clause-gives c = λ pairs leads.
@@ -49,8 +49,8 @@ returns-in-None-at_cluster-clause-goes_on c = goes_on _ c.requires.pairs _ (retu
 pub take-behind-requires-2 : goal.take-behind-requires-2
 take-behind-requires-2 c = in_of c.standing_lists.ensures.entries _ _ _ _ c.in-Some-at_cluster.slot c.requires.leads.at_cluster c.in-Some-at_cluster.is
 
-pub skip-self-requires-2 : goal.skip-self-requires-2
-skip-self-requires-2 c = tail_behind c.standing_lists.ensures.entries _ _ _ _ c.in-Some-at_cluster.slot _ c.requires.leads.at_cluster c.in-Some-at_cluster.is c.take-behind-2.ensures.behind
+pub skip-self-requires-2-clause-from : goal.skip-self-requires-2-clause-from
+skip-self-requires-2-clause-from c = tail_behind c.standing_lists.ensures.entries _ _ _ _ c.in-Some-at_cluster.slot _ c.requires.leads.at_cluster c.in-Some-at_cluster.is c.take-behind-2.ensures.behind
 
 pub returns-clause-gives : goal.returns-clause-gives
 returns-clause-gives c = λ pairs leads.

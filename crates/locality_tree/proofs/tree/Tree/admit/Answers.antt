@@ -2,19 +2,18 @@ use Rattle.std.proofs.Common.{◌≡◌, ◌+◌, ◌*◌, ◌<◌, ◌≤◌, �
 use Rattle.std.specs.Prelude.{IsTrue}
 use Rattle.fuxi_terms.specs.Cluster.{JobRecord, is_valid_job}
 use Rattle.locality_tree.specs.declared.layout.Layout.{Layout}
-use Rattle.locality_tree.specs.Trees.{TreeRecord, is_admitted, with_idle, with_job, place_count}
+use Rattle.locality_tree.specs.Trees.{TreeRecord, all_units, is_admitted, with_idle, with_job, place_count}
 use Rattle.locality_tree.specs.Layouts.{slots_of, states_in, tree_record, IsTree, Admits}
 use Rattle.locality_tree.proofs.ClusterLemmas.{small_job}
-use Rattle.locality_tree.proofs.NumbersLemmas.{slots_count}
 use Rattle.locality_tree.proofs.VacantLemmas.{units_are}
-use Rattle.locality_tree.proofs.TreesLemmas.{not_admitted, tree_admitted, admitted_view, ok_or_err, on_ok}
+use Rattle.locality_tree.proofs.TreesLemmas.{not_admitted, tree_admitted, admitted_view, ok_or_err, on_err, on_ok}
 use Rattle.locality_tree.proofs.tree.Tree.admit.Goals as goal
 
 -- there is a number for each unit, and none has places yet
-inside : (racks : List ℕ) (l : Layout) → IsTree racks l → (j : JobRecord) → IsTrue (is_valid_job 8 j) → (a units : ℕ) → a ≡ j.number → units ≡ length j.units → 8 * a + units ≤ length l.slots.items
-inside racks l t j valid a units number count =
+inside : (j : JobRecord) → IsTrue (is_valid_job 8 j) → (a units : ℕ) → a ≡ j.number → units ≡ length j.units → 8 * a + units ≤ all_units
+inside j valid a units number count =
     let job = small_job j valid in
-    let all = t.unit_count ∙ units_are in
+    let all = units_are in
     omega (arith, job.0, job.1, number, count, all)
 
 new : (racks : List ℕ) (l : Layout) (j : JobRecord) → IsTrue (is_valid_job 8 j) → (a units : ℕ) → a ≡ j.number → units ≡ length j.units → ((u : ℕ) → u < 8 → is_admitted (tree_record racks l) j.number u ≡ false) → (k : ℕ) → k < units → length (get_or (slots_of l) (8 * a + k) []) ≡ 0
@@ -24,7 +23,10 @@ new racks l j valid a units number count none k h =
     subst (λ (n : ℕ). length (get_or (slots_of l) (8 * n + k) []) ≡ 0) (sym number) (not_admitted racks l j.number k (none k few))
 
 pub admit-requires-clause-inside : goal.admit-requires-clause-inside
-admit-requires-clause-inside c = inside c.self.inside.racks.items c.self.inside.layout c.self.invariant c.args.job.now c.app.ensures.valid c.app.result.0 c.units.result c.app.ensures.number c.units.ensures.number
+admit-requires-clause-inside c = inside c.args.job.now c.app.ensures.valid c.app.result.0 c.units.result c.app.ensures.number c.units.ensures.number
+
+pub admit-requires-clause-all : goal.admit-requires-clause-all
+admit-requires-clause-all c = c.self.invariant.unit_count
 
 pub admit-requires-clause-new : goal.admit-requires-clause-new
 admit-requires-clause-new c =
@@ -36,12 +38,24 @@ invariant_of-self c =
     let racks = c.self.inside.racks.items in
     let l = c.self.inside.layout in
     let j = c.args.job.now in
+    let first = 8 * c.app.result.0 in
     let none : (u : ℕ) → u < 8 → is_admitted (tree_record racks l) j.number u ≡ false = λ u h. subst (λ (t : TreeRecord). is_admitted t j.number u ≡ false) (sym c.self.view_is) (c.requires u h) in
-    let long : 8 * c.app.result.0 + c.units.result ≤ length (slots_of l) = let m = slots_count l in let i = inside racks l c.self.invariant j c.app.ensures.valid c.app.result.0 c.units.result c.app.ensures.number c.units.ensures.number in omega (arith, m, i) in
-    elim (ok_or_err c.admit.result (Admits l c.admit.new.self (8 * c.app.result.0) c.units.result) (c.admit.new.self ≡ l) c.admit.ensures.ok c.admit.ensures.err) as (λ _. IsTree racks c.admit.new.self) [
-      | inl a ↦ tree_admitted racks l c.admit.new.self (8 * c.app.result.0) c.units.result c.self.invariant a long (new racks l j c.app.ensures.valid c.app.result.0 c.units.result c.app.ensures.number c.units.ensures.number none)
-      | inr e ↦ subst (λ (x : Layout). IsTree racks x) (sym e) c.self.invariant
+    let all = c.self.invariant.unit_count in
+    let fits = inside j c.app.ensures.valid c.app.result.0 c.units.result c.app.ensures.number c.units.ensures.number in
+    elim (ok_or_err c.admit.result (Admits l c.admit.new.self first c.units.result) (Admits l c.admit.new.self first 0) c.admit.ensures.ok c.admit.ensures.err) as (λ _. IsTree racks c.admit.new.self) [
+      | inl a ↦ tree_admitted racks l c.admit.new.self first c.units.result c.self.invariant a (omega (arith, fits, all)) (new racks l j c.app.ensures.valid c.app.result.0 c.units.result c.app.ensures.number c.units.ensures.number none)
+      | inr a ↦ tree_admitted racks l c.admit.new.self first 0 c.self.invariant a (omega (arith, fits, all)) (λ k h. absurd (omega arith))
     ]
+
+pub returns-clause-err : goal.returns-clause-err
+returns-clause-err c =
+    let racks = c.self.inside.racks.items in
+    let l = c.self.inside.layout in
+    let first = 8 * c.app.result.0 in
+    let all = c.self.invariant.unit_count in
+    let fits = inside c.args.job.now c.app.ensures.valid c.app.result.0 c.units.result c.app.ensures.number c.units.ensures.number in
+    on_err c.admit.result (Admits l c.admit.new.self first 0) (tree_record racks c.admit.new.self ≡ c.args.self.now)
+    (λ a. admitted_view racks l c.admit.new.self first 0 c.self.invariant a (omega (arith, fits, all)) (λ k h. absurd (omega arith)) ∙ c.self.view_is) c.admit.ensures.err
 
 pub returns-clause-ok : goal.returns-clause-ok
 returns-clause-ok c =
@@ -49,9 +63,10 @@ returns-clause-ok c =
     let l = c.self.inside.layout in
     let j = c.args.job.now in
     let none : (u : ℕ) → u < 8 → is_admitted (tree_record racks l) j.number u ≡ false = λ u h. subst (λ (t : TreeRecord). is_admitted t j.number u ≡ false) (sym c.self.view_is) (c.requires u h) in
-    let long : 8 * c.app.result.0 + c.units.result ≤ length (slots_of l) = let m = slots_count l in let i = inside racks l c.self.invariant j c.app.ensures.valid c.app.result.0 c.units.result c.app.ensures.number c.units.ensures.number in omega (arith, m, i) in
+    let all = c.self.invariant.unit_count in
+    let fits = inside j c.app.ensures.valid c.app.result.0 c.units.result c.app.ensures.number c.units.ensures.number in
     on_ok c.admit.result (Admits l c.admit.new.self (8 * c.app.result.0) c.units.result) (tree_record racks c.admit.new.self ≡ with_job c.args.self.now j)
-    (λ a. admitted_view racks l c.admit.new.self (8 * c.app.result.0) c.units.result c.self.invariant a long (new racks l j c.app.ensures.valid c.app.result.0 c.units.result c.app.ensures.number c.units.ensures.number none)
+    (λ a. admitted_view racks l c.admit.new.self (8 * c.app.result.0) c.units.result c.self.invariant a (omega (arith, fits, all)) (new racks l j c.app.ensures.valid c.app.result.0 c.units.result c.app.ensures.number c.units.ensures.number none)
     ∙ ap (λ (n : ℕ). with_first racks l n c.units.result) c.app.ensures.number ∙ ap (with_first racks l j.number) c.units.ensures.number
     ∙ ap (λ (t : TreeRecord). with_job t j) c.self.view_is) c.admit.ensures.ok
   where

@@ -1,13 +1,14 @@
--- Sets of numbers, bit by bit.
-use Rattle.std.proofs.Common.{◌≡◌, ◌≢◌, ℕ, zero, suc, ◌+◌, ◌*◌, ◌/◌, ◌%◌, ◌^◌, ◌<◌, Bool, true, false, not, nat_eq, List, length, get_or, set, replicate, refl, sym, ap, ◌∙◌, inl, inr, arith}
+-- Sets of places, bit by bit.
+use Rattle.std.proofs.Common.{◌≡◌, ◌≢◌, ℕ, zero, suc, ◌+◌, ◌-◌, ◌*◌, ◌/◌, ◌%◌, ◌^◌, ◌<◌, ◌≤◌, Bool, true, false, not, nat_eq, List, length, get_or, set, replicate, refl, sym, ap, ◌∙◌, inl, inr, arith}
 use mathlib.Core.Bool.{beq}
 use Rattle.std.proofs.lemmas.Bool.{cases_eq, cases_lt}
 use Rattle.std.proofs.lemmas.List.{get_or-set_same, get_or-set_other, set_past}
-use Rattle.std.proofs.lemmas.Nat.{shl_whole}
-use Rattle.std.proofs.lemmas.Nat.Bits.{bit_at-zero, bit_at_xor, bit_at-pow_same, bit_at-pow_other}
+use Rattle.std.proofs.lemmas.Nat.{shl_whole, shr-shr}
+use Rattle.std.proofs.lemmas.Nat.Bits.{bit_at-zero, bit_at_xor, bit_at-pow_same, bit_at-pow_other, bit_at_above, bit_at-trailing_zeros}
 use lib.Bits.{bit_xor}
-use Rattle.std.specs.Int.{bit_at}
-use Rattle.locality_tree.specs.NumberSets.{in_set}
+use Rattle.std.proofs.Math.Nat.{div-le_self}
+use Rattle.std.specs.Int.{w64, bit_at, trailing_zeros}
+use Rattle.locality_tree.specs.PlaceSets.{in_set}
 
 zeros : (k i : ℕ) → get_or {A = ℕ} (replicate k 0) i 0 ≡ 0
 zeros zero i = refl
@@ -68,3 +69,49 @@ other_bool true true d = absurd (cc)
 other_bool true false d = refl
 other_bool false true d = refl
 other_bool false false d = absurd (cc)
+
+-- What is left of a word where a place has its bit.
+module _ (words : List ℕ) (at : ℕ) where
+  abbrev pub rest_at : ℕ
+  rest_at = get_or words (at / 64) 0 / 2 ^ (at % 64)
+
+  in_rest : (i : ℕ) → at % 64 + i < 64 → in_set (record { words = words }) (at + i) ≡ nat_eq (bit_at rest_at i) 1
+  in_rest i h =
+      let w : ℕ = get_or words (at / 64) 0 in
+      let place : (at + i) / 64 ≡ at / 64 = omega (arith, h) in
+      let bit : (at + i) % 64 ≡ at % 64 + i = omega (arith, h) in
+      ap (λ k. nat_eq (bit_at (get_or words k 0) ((at + i) % 64)) 1) place ∙ ap (λ k. nat_eq (bit_at w k) 1) bit ∙ ap (λ x. nat_eq (x % 2) 1) (sym (shr-shr w (at % 64) i))
+
+  -- where no bit is left there is no place before the next word
+  pub rest_none : rest_at ≡ 0 → (n : ℕ) → at ≤ n → n < (at / 64 + 1) * 64 → in_set (record { words = words }) n ≡ false
+  rest_none none n least most =
+      let i : ℕ = n - at in
+      let same : n ≡ at + i = omega (arith, least) in
+      ap (in_set (record { words = words })) same ∙ in_rest i (omega (arith, least, most)) ∙ ap (λ x. nat_eq (bit_at x i) 1) none ∙ ap (λ b. nat_eq b 1) (bit_at-zero i)
+
+  -- its lowest bit is that of the first place
+  module _ (some : 0 < rest_at) (range : get_or words (at / 64) 0 < 2 ^ 64) where
+    abbrev pub lowest : ℕ
+    lowest = trailing_zeros w64 rest_at
+
+    is_lowest : (lowest < 64) × (bit_at rest_at lowest ≡ 1) × ((i : ℕ) → i < lowest → bit_at rest_at i ≡ 0)
+    is_lowest = bit_at-trailing_zeros w64 rest_at some (let less = div-le_self (get_or words (at / 64) 0) (2 ^ (at % 64)) in omega (arith, range, less))
+
+    pub lowest_inside : at % 64 + lowest < 64
+    lowest_inside = elim (cases_lt (at % 64 + lowest) 64) as (λ _. at % 64 + lowest < 64) [
+      | inl h ↦ h
+      | inr h ↦
+          let w : ℕ = get_or words (at / 64) 0 in
+          let none : bit_at rest_at lowest ≡ 0 = ap (λ x. x % 2) (shr-shr w (at % 64) lowest) ∙ bit_at_above w 64 (at % 64 + lowest) range h in
+          absurd (let one = is_lowest.1 in omega (arith, none, one))
+    ]
+
+    pub lowest_found : in_set (record { words = words }) (at + lowest) ≡ true
+    lowest_found = in_rest lowest lowest_inside ∙ ap (λ b. nat_eq b 1) is_lowest.1
+
+    pub lowest_first : (n : ℕ) → at ≤ n → n < at + lowest → in_set (record { words = words }) n ≡ false
+    lowest_first n least most =
+        let i : ℕ = n - at in
+        let same : n ≡ at + i = omega (arith, least) in
+        let inside = lowest_inside in
+        ap (in_set (record { words = words })) same ∙ in_rest i (omega (arith, least, most, inside)) ∙ ap (λ b. nat_eq b 1) (is_lowest.2 i (omega (arith, least, most)))
