@@ -11,7 +11,7 @@ use Rattle.fuxi_terms.specs.Keys.{Pair}
 use Rattle.fuxi_terms.specs.Lists.{below}
 use Rattle.fuxi_terms.specs.Tables.{spot, Table}
 use Rattle.fuxi_terms.proofs.Alls.{all_append}
-use Rattle.fuxi_terms.proofs.Booleans.{both_true, and_true}
+use Rattle.fuxi_terms.proofs.Booleans.{both_true, and_true, or_right}
 use Rattle.fuxi_terms.proofs.Lists.{all_at}
 use Rattle.fuxi_terms.proofs.Members.{In, in_below, in_left, in_right}
 use Rattle.written_roles.specs.Masters.{level_of}
@@ -69,11 +69,7 @@ by_place l v t m p l' v' t' m' p' before same e = elim (step l l' (v ∷ t ∷ m
 pub has_at : (xs : List Pair) (i : ℕ) (p : Pair) → slice_get xs i ≡ Some p → has_pair p xs ≡ true
 has_at [] i p e = cc
 has_at (x ∷ xs) zero p e = let same : x ≡ p = cc in ap (λ z. same_pair p z || has_pair p xs) same ∙ ap (λ b. b || has_pair p xs) (pair_self p)
-has_at (x ∷ xs) (suc i) p e = or_later (same_pair p x) (has_pair p xs) (has_at xs i p e)
-  where
-    or_later : (b c : Bool) → c ≡ true → (b || c) ≡ true
-    or_later true c h = refl
-    or_later false c h = h
+has_at (x ∷ xs) (suc i) p e = or_right (same_pair p x) (has_pair p xs) (has_at xs i p e)
 
 pub rises_at : (f : Pair → ℕ) (xs : List Pair) (i j : ℕ) (p q : Pair) → Rises f xs → slice_get xs i ≡ Some p → slice_get xs j ≡ Some q → i < j → f p < f q
 rises_at f [] i j p q h e g lt = cc

@@ -13,7 +13,7 @@ use Rattle.fuxi_terms.specs.declared.Key.{Key}
 use Rattle.fuxi_terms.specs.Jobs.{group_of, most_of}
 use Rattle.fuxi_terms.specs.Tables.{spot, held, held_on, Table}
 use Rattle.fuxi_terms.proofs.Alls.{all_append, all_filter, all_more}
-use Rattle.fuxi_terms.proofs.Booleans.{both_true, and_true, number_is, nat_itself}
+use Rattle.fuxi_terms.proofs.Booleans.{both_true, and_true, or_right, number_is, nat_itself}
 use Rattle.fuxi_terms.proofs.Sums.{sum_set}
 use Rattle.written_roles.specs.Placing.{Board, has_pair}
 use Rattle.grant_table.specs.GrantTables.{TableRecord, as_known}
@@ -41,12 +41,8 @@ rises_filter f q (x ∷ xs) h = elim (q x) as (λ b. Rises f (cond b (x ∷ filt
 pub rising_filter : (f : Pair → ℕ) (q : Pair → Bool) (xs : List Pair) → IsRising f xs → IsRising f (filter q xs)
 rising_filter f q xs h = rising f (filter q xs) (rises_filter f q xs (rising_all f xs h))
 
-pub or_later : (b c : Bool) → c ≡ true → (b || c) ≡ true
-or_later true c h = refl
-or_later false c h = h
-
 has_later : (p x : Pair) (xs : List Pair) → has_pair p xs ≡ true → has_pair p (x ∷ xs) ≡ true
-has_later p x xs h = or_later (same_pair p x) (has_pair p xs) h
+has_later p x xs h = or_right (same_pair p x) (has_pair p xs) h
 
 all_had : (P : Pair → Type 0) (xs : List Pair) → ((p : Pair) → has_pair p xs ≡ true → P p) → AllByRecursion P xs
 all_had P [] h = tt

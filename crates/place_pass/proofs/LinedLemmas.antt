@@ -6,7 +6,7 @@ use Rattle.std.proofs.Math.Seq.{take-append_seam}
 use Rattle.fuxi_terms.specs.Cluster.{ClusterRecord}
 use Rattle.fuxi_terms.specs.Keys.{Pair}
 use Rattle.fuxi_terms.proofs.Alls.{all_filter}
-use Rattle.fuxi_terms.proofs.Booleans.{both_true}
+use Rattle.fuxi_terms.proofs.Booleans.{both_true, or_right}
 use Rattle.fuxi_terms.proofs.Lists.{all_at}
 use Rattle.written_roles.specs.Placing.{has_pair}
 use Rattle.grant_table.specs.GrantTables.{TableRecord}
@@ -18,7 +18,7 @@ use Rattle.place_pass.specs.Placers.{KeptRecord, IsKept}
 use Rattle.place_pass.specs.PlacerTrees.{Holds, HoldsLine}
 use Rattle.place_pass.proofs.CellsLemmas.{placed}
 use Rattle.place_pass.proofs.FirstByTurn.{has_at}
-use Rattle.place_pass.proofs.KeptLemmas.{kept_lined, or_later, rises_filter}
+use Rattle.place_pass.proofs.KeptLemmas.{kept_lined, rises_filter}
 use Rattle.place_pass.proofs.WaitingLinesLemmas.{any_append, has_filter}
 use Rattle.place_pass.proofs.SightsLemmas.{place_of}
 use Rattle.place_pass.specs.WaitingLines.{same_pair}
@@ -63,7 +63,7 @@ module _ {line front all other : List Pair} {stayed : ℕ} {q : Pair → Bool} {
     where
       there : (a u : ℕ) → has_pair (a, u) joined ≡ true → u < length (get_or cells a [])
       there a u has =
-          let place = place_of (a, u) other (ap (has_pair (a, u)) lined_is ∙ any_append (same_pair (a, u)) front joined ∙ or_later (has_pair (a, u) front) (has_pair (a, u) joined) has) in
+          let place = place_of (a, u) other (ap (has_pair (a, u)) lined_is ∙ any_append (same_pair (a, u)) front joined ∙ or_right (has_pair (a, u) front) (has_pair (a, u) joined) has) in
           all_at (λ (p : Pair). p.1 < length (get_or cells p.0 [])) other place.place (a, u) admitted place.at
 
   -- those that stay are the first of the new line

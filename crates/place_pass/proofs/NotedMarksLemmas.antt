@@ -10,7 +10,7 @@ use Rattle.fuxi_terms.proofs.IndexedLists.{one_set}
 use Rattle.place_pass.specs.declared.marks.Mark.{Mark}
 use Rattle.place_pass.specs.Bounds.{MarkRecord, mark_of, mark_at, key_of, zero_rank, no_mark, reset_mark, lowered, lowered_mark, taken_mark}
 use Rattle.place_pass.specs.NotedMarks.{AreNoted, AreClearUnless}
-use Rattle.place_pass.specs.PackedRanks.{never_rank, IsSmall, IsAbove}
+use Rattle.place_pass.specs.PackedRanks.{never_rank, renewed_number, IsSmall, IsAbove}
 use Rattle.place_pass.proofs.PackedRanksLemmas.{first_key, least_above, least_some}
 use Rattle.place_pass.proofs.SearchCountsLemmas.{none_noted, none_any}
 use Rattle.place_pass.proofs.SightsLemmas.{mark_read, marks_set}
@@ -52,9 +52,6 @@ noted_new n few =
     }
 
 -- the numbers of all machines are the least, but where there never is a rank
-abbrev pub renewed_number : ℕ → ℕ
-renewed_number key = cond (nat_eq key never_rank) key 0
-
 pub noted_renewed : (marks : List MarkRecord) (keys news : List ℕ) (until turns : ℕ) → turns < 2 ^ 64 → length news ≡ length keys → ((n : ℕ) → n < length news → get_or news n 0 ≡ renewed_number (get_or keys n 0)) → AreNoted marks keys until → AreNoted marks news turns
 noted_renewed marks keys news until turns small long all old = record {
   few = old.few;
@@ -77,10 +74,10 @@ module _ (marks : List Mark) (machine : ℕ) (x : Mark) where
   pub long_set : length (map mark_of (set marks machine x)) ≡ length (map mark_of marks)
   long_set = length-map (set marks machine x) mark_of ∙ length-set marks machine x ∙ sym (length-map marks mark_of)
 
-  pub noted_set : (keys : List ℕ) (key until : ℕ) → machine < length marks → AreNoted (map mark_of marks) keys until
+  noted_put : (keys : List ℕ) (key until : ℕ) → machine < length marks → AreNoted (map mark_of marks) keys until
       → ((turns : ℕ) → turns ≤ until → is_some (key_of (mark_of x) turns) ≡ true → IsAbove (mark_of x) turns machine key)
       → ((turns : ℕ) → key ≡ never_rank → turns < 2 ^ 64 → is_some (key_of (mark_of x) turns) ≡ false) → AreNoted (map mark_of (set marks machine x)) (set keys machine key) until
-  noted_set keys key until lt old here ends =
+  noted_put keys key until lt old here ends =
       let after : List MarkRecord = map mark_of (set marks machine x) in
       let long = long_set in
       let number = old.long in
@@ -113,6 +110,11 @@ module _ (marks : List Mark) (machine : ℕ) (x : Mark) where
               ap (λ (z : MarkRecord). is_some (key_of z turns)) is ∙ old.never m turns (omega (arith, l, long)) (sym k ∙ same) small
         ] refl;
       }
+
+  pub noted_set : (keys news : List ℕ) (key until : ℕ) → news ≡ set keys machine key → machine < length marks → AreNoted (map mark_of marks) keys until
+      → ((turns : ℕ) → turns ≤ until → is_some (key_of (mark_of x) turns) ≡ true → IsAbove (mark_of x) turns machine key)
+      → ((turns : ℕ) → key ≡ never_rank → turns < 2 ^ 64 → is_some (key_of (mark_of x) turns) ≡ false) → AreNoted (map mark_of (set marks machine x)) news until
+  noted_set keys news key until is lt old here ends = subst (λ (ks : List ℕ). AreNoted (map mark_of (set marks machine x)) ks until) (sym is) (noted_put keys key until lt old here ends)
 
 -- ---- a mark of those that have these values is lent, and written
 module _ (items : List Mark) (marks : List MarkRecord) (view : map mark_of items ≡ marks) (n : ℕ) (there : n < length marks) where

@@ -11,3 +11,4 @@ pub mod DemandWalks
 pub mod DemandScopes
 pub mod Scenes
 pub mod NotedMarks
+pub mod Floors

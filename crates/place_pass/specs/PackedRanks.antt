@@ -1,5 +1,5 @@
 -- A rank on a machine as one number, which orders as such ranks do: the least of many is found by plain numbers.
-use Rattle.std.specs.Prelude.{◌≡◌, ℕ, ◌+◌, ◌-◌, ◌*◌, ◌^◌, ◌<◌, ◌≤◌, Some}
+use Rattle.std.specs.Prelude.{◌≡◌, ℕ, ◌+◌, ◌-◌, ◌*◌, ◌^◌, ◌<◌, ◌≤◌, cond, nat_eq, Some}
 use Rattle.place_pass.specs.declared.marks.Rank.{Rank}
 use Rattle.place_pass.specs.Bounds.{MarkRecord, rank_of, key_of}
 
@@ -13,6 +13,10 @@ no_rank = 2 ^ 128 - 2
 -- and where there is none, whatever begins to wait
 abbrev pub never_rank : ℕ
 never_rank = 2 ^ 128 - 1
+
+-- the number of a machine where no pair from a turn on was looked at yet
+abbrev pub renewed_number : ℕ → ℕ
+renewed_number key = cond (nat_eq key never_rank) key 0
 
 pub record IsSmall (r : Rank) : Type 0 where
   pub late : r.late < 256

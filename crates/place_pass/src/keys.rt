@@ -1,12 +1,19 @@
 //! Bounds of machines as plain numbers, so that a walk over all machines reads one number of each.
 
-ghost use Rattle.std.specs.Prelude.{◌≡◌, ℕ, ◌^◌, ◌<◌, ◌≤◌, List, cond, length, true, false, nat_eq, is_some};
+ghost use Rattle.std.specs.Prelude.{◌≡◌, ℕ, ◌+◌, ◌*◌, ◌/◌, ◌^◌, ◌<◌, ◌≤◌, min, cond, length, true, false, nat_eq, is_some};
 ghost use Rattle.std.proofs.Common.{get_or};
-ghost use Rattle.place_pass.specs.Bounds.{MarkRecord, mark_of, key_of};
-ghost use Rattle.place_pass.specs.PackedRanks.{packed, no_rank, never_rank, IsSmall, IsAbove};
-ghost use Rattle.place_pass.specs.NotedMarks.{AreNoted};
+ghost use Rattle.place_pass.specs.Bounds.{mark_of, key_of};
+ghost use Rattle.place_pass.specs.PackedRanks.{packed, no_rank, never_rank, renewed_number, IsSmall, IsAbove};
 
 use crate::marks::{Mark, Rank};
+use fuxi_terms::OutOfMemory;
+use std::alloc::Global;
+use std::marker::Model;
+
+/// How many machines stand in a block.
+const BLOCK: usize = 16;
+/// How many blocks there are.
+const BLOCKS: usize = 16;
 
 /// The number of a rank on a machine, which orders as such ranks do.
 pub(crate) fn number_of(rank: Rank, machine: u32) -> u128
@@ -52,39 +59,183 @@ pub(crate) fn number_of_mark(mark: &Mark, until: u64, machine: u32) -> u128
     number
 }
 
-/// The first place from one on whose number is below a limit, and the end where there is none.
-pub(crate) fn first_below(keys: &[u128], from: usize, limit: u128) -> usize
-    requires { from ≤ length keys.now }
-    ensures least { from ≤ result }
-    ensures inside { result ≤ length keys.now }
-    ensures passed { (m : ℕ) → from ≤ m → m < result → limit ≤ get_or keys.now m 0 }
-{
-    let mut at = from;
-    while at < keys.len() {
-        if keys[at] < limit {
-            return at;
-        }
-        at += 1;
-    }
-    at
-}
-
 // The number of a machine when no pair from a turn on is looked at yet.
 fn renewed(key: u128) -> u128
-    ensures { result ≡ cond (nat_eq key never_rank) key 0 }
+    ensures { result ≡ renewed_number key }
 {
     if key == number_of_never() { key } else { 0 }
 }
 
-/// No pair from a turn on is looked at yet, so only a machine that is settled whatever begins to wait has a number above the least.
-pub(crate) fn renew(keys: &mut Vec<u128>, until: &mut u64, turns: u64)
-    ensures { (marks : List MarkRecord) → AreNoted marks keys.old.items until.old → AreNoted marks keys.new.items until.new }
+// No pair from a turn on is looked at yet on any machine.
+fn renew(numbers: &mut Vec<u128>)
+    ensures long { length numbers.new.items ≡ length numbers.old.items }
+    ensures all { (n : ℕ) → n < length numbers.new.items → get_or numbers.new.items n 0 ≡ renewed_number (get_or numbers.old.items n 0) }
 {
-    if *until >= turns {
-        return;
+    for place in 0..numbers.len() {
+        numbers[place] = renewed(numbers[place]);
     }
-    for place in 0..keys.len() {
-        keys[place] = renewed(keys[place]);
+}
+
+// The end of the block in which a place stands.
+fn block_end(place: usize, length: usize) -> usize
+    requires { place < 256 }
+    ensures { result ≡ min length (place / 16 * 16 + 16) }
+{
+    length.min(place / BLOCK * BLOCK + BLOCK)
+}
+
+// The first place from one on to another whose number is below a limit, and the other where there is none.
+fn first_below(numbers: &[u128], from: usize, to: usize, limit: u128) -> usize
+    requires order { from ≤ to }
+    requires inside { to ≤ length numbers.now }
+    ensures least { from ≤ result }
+    ensures inside { result ≤ to }
+    ensures passed { (m : ℕ) → from ≤ m → m < result → limit ≤ get_or numbers.now m 0 }
+{
+    for place in from..to {
+        if numbers[place] < limit {
+            return place;
+        }
     }
-    *until = turns;
+    to
+}
+
+// A number that none from one place on to another is below.
+fn least_of(numbers: &[u128], from: usize, to: usize) -> u128
+    requires { to ≤ length numbers.now }
+    ensures { (m : ℕ) → from ≤ m → m < to → result ≤ get_or numbers.now m 0 }
+{
+    let mut least = u128::MAX;
+    for place in from..to {
+        least = least.min(numbers[place]);
+    }
+    least
+}
+
+/// A number for each machine, and for each block of machines one that none of them is below, so that a walk over all passes blocks.
+#[derive(Drop)]
+pub(crate) struct Keys {
+    numbers: Vec<u128>,
+    floors: [u128; BLOCKS],
+    /// Whether the floor of a block may be raised, since a number was.
+    stale: [bool; BLOCKS],
+}
+
+impl Model for Keys {
+    ghost use Rattle.std.specs.Prelude.{List, ℕ};
+    ghost use Rattle.place_pass.specs.Floors.{AreAboveFloors};
+
+    ghost Value = { List ℕ };
+
+    ghost view = { λ k. k.numbers.items };
+
+    ghost invariant = { λ k. AreAboveFloors k.numbers.items k.floors };
+}
+
+impl Keys {
+    ghost use Rattle.std.specs.Prelude.{◌≡◌, ℕ, ◌<◌, ◌≤◌, length, replicate, set, IfOk};
+    ghost use Rattle.std.proofs.Common.{get_or};
+    ghost use Rattle.place_pass.specs.PackedRanks.{renewed_number};
+
+    /// The least number for each of so many machines.
+    pub(crate) fn new(alloc: Global, machines: usize) -> Result<Keys, OutOfMemory>
+        requires { machines ≤ 256 }
+        ensures { IfOk result (λ keys. keys ≡ replicate machines 0) }
+    {
+        Ok(Keys {
+            numbers: Vec::from_elem(alloc, 0, machines)?,
+            floors: [0; BLOCKS],
+            stale: [false; BLOCKS],
+        })
+    }
+
+    /// The number of a machine.
+    pub(crate) fn at(&self, machine: usize) -> u128
+        requires { machine < length self.now }
+        ensures { result ≡ get_or self.now machine 0 }
+    {
+        self.numbers[machine]
+    }
+
+    /// The number of a machine is this one.
+    pub(crate) fn put(&mut self, machine: usize, number: u128)
+        requires { machine < length self.old }
+        ensures { self.new ≡ set self.old machine number }
+    {
+        let block = machine / BLOCK;
+        self.numbers[machine] = number;
+        if number < self.floors[block] {
+            self.floors[block] = number;
+        } else {
+            self.stale[block] = true;
+        }
+    }
+
+    // The floor of a block is the least of its numbers.
+    fn raise_one(&mut self, block: usize)
+        requires { block < 16 }
+        ensures { self.new ≡ self.old }
+    {
+        let start = block * BLOCK;
+        let end = block_end(start, self.numbers.len());
+        self.floors[block] = least_of(&self.numbers, start, end);
+        self.stale[block] = false;
+    }
+
+    /// Raises the floors under numbers that were raised.
+    pub(crate) fn raise(&mut self)
+        ensures { self.new ≡ self.old }
+    {
+        for block in 0..BLOCKS {
+            if self.stale[block] {
+                self.raise_one(block);
+            }
+        }
+    }
+
+    // The first place in a block, from one on, whose number is below a limit, and the end of the block where there is none.
+    fn next_in_block(&self, from: usize, to: usize, limit: u128) -> usize
+        requires from { from < length self.now }
+        requires to { to ≡ min (length self.now) (from / 16 * 16 + 16) }
+        ensures least { from ≤ result }
+        ensures inside { result ≤ to }
+        ensures passed { (m : ℕ) → from ≤ m → m < result → limit ≤ get_or self.now m 0 }
+    {
+        if self.numbers[from] < limit {
+            return from;
+        }
+        if limit <= self.floors[from / BLOCK] {
+            return to;
+        }
+        first_below(&self.numbers, from, to, limit)
+    }
+
+    /// The first machine from one on whose number is below a limit, and the end where there is none.
+    pub(crate) fn next(&self, from: usize, limit: u128) -> usize
+        requires { from ≤ length self.now }
+        ensures least { from ≤ result }
+        ensures inside { result ≤ length self.now }
+        ensures passed { (m : ℕ) → from ≤ m → m < result → limit ≤ get_or self.now m 0 }
+    {
+        let mut at = from;
+        while at < self.numbers.len() {
+            let end = block_end(at, self.numbers.len());
+            let found = self.next_in_block(at, end, limit);
+            if found < end {
+                return found;
+            }
+            at = end;
+        }
+        at
+    }
+
+    /// No pair from a turn on is looked at yet, so only a machine that is settled whatever begins to wait has a number above the least.
+    pub(crate) fn renew(&mut self)
+        ensures long { length self.new ≡ length self.old }
+        ensures all { (m : ℕ) → m < length self.new → get_or self.new m 0 ≡ renewed_number (get_or self.old m 0) }
+    {
+        renew(&mut self.numbers);
+        self.floors = [0; BLOCKS];
+        self.stale = [true; BLOCKS];
+    }
 }

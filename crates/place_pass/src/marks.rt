@@ -12,7 +12,7 @@ ghost use Rattle.place_pass.specs.Best.{AreAdmitted};
 ghost use Rattle.place_pass.specs.Bounds.{MarkRecord, rank_of, mark_of, mark_at, key_of, zero_rank, reset_mark, cleared_mark, limited_mark, lowered_mark, after_taking, is_nearer_in};
 ghost use Rattle.place_pass.specs.Sights.{IsAsked, IsForgotten};
 
-use crate::keys::{first_below, number_of_mark, number_of_none, renew};
+use crate::keys::{Keys, number_of_mark, number_of_none};
 use crate::line::Line;
 use crate::search::{Found, Scene, consider};
 use crate::wishes::Wishes;
@@ -199,7 +199,7 @@ pub(crate) struct Marks {
     marks: Vec<Mark>,
     /// None is greater than that of the machine's bound of all pairs with a turn below `until`.
     /// The greatest of all is that of a machine that is settled whatever begins to wait.
-    keys: Vec<u128>,
+    keys: Keys,
     until: u64,
     /// Whether a mark may note a group.
     noted: bool,
@@ -214,7 +214,7 @@ impl Model for Marks {
 
     ghost view = { λ s. map mark_of s.marks.items };
 
-    ghost invariant = { λ s. AreNoted (map mark_of s.marks.items) s.keys.items s.until × AreClearUnless (map mark_of s.marks.items) s.noted };
+    ghost invariant = { λ s. AreNoted (map mark_of s.marks.items) s.keys s.until × AreClearUnless (map mark_of s.marks.items) s.noted };
 }
 
 impl Marks {
@@ -233,7 +233,7 @@ impl Marks {
     {
         Ok(Marks {
             marks: Vec::from_elem(alloc, Mark::new(), machines)?,
-            keys: Vec::from_elem(alloc, 0, machines)?,
+            keys: Keys::new(alloc, machines)?,
             until: 0,
             noted: false,
         })
@@ -263,7 +263,7 @@ impl Marks {
         if self.until < turns {
             return 0;
         }
-        self.keys[machine as usize]
+        self.keys.at(machine as usize)
     }
 
     /// The first machine from one on whose bound may have a number below a limit. The turns of all pairs are below `turns`.
@@ -281,7 +281,7 @@ impl Marks {
         if self.until < turns {
             return from;
         }
-        first_below(&self.keys, from as usize, limit) as u32
+        self.keys.next(from as usize, limit) as u32
     }
 
     /// The mark of a machine is this one.
@@ -293,7 +293,7 @@ impl Marks {
         let key = number_of_mark(&mark, self.until, machine);
         self.noted |= mark.notes_any();
         self.marks[machine as usize] = mark;
-        self.keys[machine as usize] = key;
+        self.keys.put(machine as usize, key);
     }
 
     /// The best of what was found before and of what is placeable on one machine, which is looked at. Its mark is changed in place.
@@ -322,7 +322,7 @@ impl Marks {
         consider(scene, machine, mark, steps, best);
         let key = number_of_mark(mark, self.until, machine.0);
         self.noted |= mark.notes_any();
-        self.keys[machine.0 as usize] = key;
+        self.keys.put(machine.0 as usize, key);
     }
 
     /// No pair of the line may be placed on a machine before this bound. Their turns are below `turns`.
@@ -335,14 +335,19 @@ impl Marks {
         let mark = &mut self.marks[machine as usize];
         mark.set_bound(bound, turns);
         let key = number_of_mark(mark, self.until, machine);
-        self.keys[machine as usize] = key;
+        self.keys.put(machine as usize, key);
     }
 
-    /// Pairs with a turn below this one may wait that were not looked at.
+    /// Pairs with a turn below this one may wait that were not looked at. What was settled since is passed in blocks from now on.
     pub(crate) fn renew(&mut self, turns: u64)
         ensures { self.new ≡ self.old }
     {
-        renew(&mut self.keys, &mut self.until, turns);
+        if self.until >= turns {
+            self.keys.raise();
+            return;
+        }
+        self.keys.renew();
+        self.until = turns;
     }
 
     // Whether a mark may note a group.
@@ -369,7 +374,7 @@ impl Marks {
         let mark = &mut self.marks[machine as usize];
         mark.lower();
         let key = number_of_mark(mark, self.until, machine);
-        self.keys[machine as usize] = key;
+        self.keys.put(machine as usize, key);
     }
 
     // Pairs with this turn or a later one may be placeable on a machine.
@@ -381,7 +386,7 @@ impl Marks {
         let mark = &mut self.marks[machine as usize];
         mark.limit(turns);
         let key = number_of_mark(mark, self.until, machine);
-        self.keys[machine as usize] = key;
+        self.keys.put(machine as usize, key);
     }
 
     // Grants of a unit of this group were taken, on this machine or on another, where the unit may be nearer.
@@ -396,7 +401,7 @@ impl Marks {
         let mark = &mut self.marks[machine as usize];
         mark.take(here, group, nearer);
         let key = number_of_mark(mark, self.until, machine);
-        self.keys[machine as usize] = key;
+        self.keys.put(machine as usize, key);
     }
 }
 

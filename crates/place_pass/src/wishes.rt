@@ -345,7 +345,7 @@ pub(crate) fn fresh_units(
 fn empty_slots(alloc: Global) -> Result<Vec<Vec<Wish>>, OutOfMemory>
     ensures { IfOk result (λ slots. cells_of slots.items ≡ replicate most_jobs []) }
 {
-    let mut slots = Vec::new(alloc);
+    let mut slots = Vec::with_capacity(alloc, MOST_JOBS as usize)?;
     for _ in 0..MOST_JOBS {
         slots.push(Vec::new(alloc))?;
     }

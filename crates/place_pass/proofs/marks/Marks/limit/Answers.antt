@@ -6,7 +6,7 @@ use Rattle.place_pass.proofs.marks.Marks.limit.Goals as goal
 pub invariant_of-self : goal.invariant_of-self
 invariant_of-self c =
     let items = c.self.inside.marks.items in (
-      noted_set items c.args.machine c.limit.new.self c.self.inside.keys.items c.number_of_mark-key.result c.self.inside.until (lent_there items c.args.self.now c.self.view_is c.args.machine c.requires) c.self.invariant.0 c.number_of_mark-key.ensures.above c.number_of_mark-key.ensures.never,
+      noted_set items c.args.machine c.limit.new.self c.self.inside.keys c.put.new.self c.number_of_mark-key.result c.self.inside.until c.put.ensures (lent_there items c.args.self.now c.self.view_is c.args.machine c.requires) c.self.invariant.0 c.number_of_mark-key.ensures.above c.number_of_mark-key.ensures.never,
       clear_set items c.args.self.now c.self.view_is c.args.machine c.requires c.limit.new.self c.self.inside.noted c.self.inside.noted c.self.invariant.1 (λ e. e) (λ e g.
           let groups = c.limit.ensures ∙ ap (limited_mark c.args.turns) (lent_mark items c.args.self.now c.self.view_is c.args.machine c.requires c.index_mut-mark.result.now c.index_mut-mark.ensures.value) in
           ap (λ (k : MarkRecord). get_or k.groups g false) groups ∙ clear_there items c.args.self.now c.self.view_is c.args.machine c.requires c.self.inside.noted c.self.invariant.1 e g),

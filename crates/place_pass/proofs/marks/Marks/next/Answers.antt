@@ -8,7 +8,7 @@ use Rattle.place_pass.proofs.marks.Marks.next.Goals as goal
 
 pub returns-then-limit-eq0-clause-passed : goal.returns-then-limit-eq0-clause-passed
 returns-then-limit-eq0-clause-passed c m ge lt some =
-    let number = get_or c.self.inside.keys.items m 0 in
+    let number = get_or c.self.inside.keys m 0 in
     let long = length-map c.self.inside.marks.items mark_of in
     let len = c.len.ensures in
     let zero = c.if-limit-eq0.true in

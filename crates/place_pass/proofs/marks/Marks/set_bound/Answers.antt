@@ -9,7 +9,7 @@ invariant_of-self c =
     let n = c.args.machine in
     let items = c.self.inside.marks.items in
     let bound = option_map rank_of c.args.bound in (
-      noted_set items n c.set_bound.new.self c.self.inside.keys.items c.number_of_mark-key.result c.self.inside.until (lent_there items c.args.self.now c.self.view_is n c.requires) c.self.invariant.0 c.number_of_mark-key.ensures.above c.number_of_mark-key.ensures.never,
+      noted_set items n c.set_bound.new.self c.self.inside.keys c.put.new.self c.number_of_mark-key.result c.self.inside.until c.put.ensures (lent_there items c.args.self.now c.self.view_is n c.requires) c.self.invariant.0 c.number_of_mark-key.ensures.above c.number_of_mark-key.ensures.never,
       clear_set items c.args.self.now c.self.view_is n c.requires c.set_bound.new.self c.self.inside.noted c.self.inside.noted c.self.invariant.1 (λ e. e) (λ e g.
           let groups = c.set_bound.ensures ∙ ap (bounded_mark bound c.args.turns) (lent_mark items c.args.self.now c.self.view_is n c.requires c.index_mut-mark.result.now c.index_mut-mark.ensures.value) in
           ap (λ (k : MarkRecord). get_or k.groups g false) groups ∙ clear_there items c.args.self.now c.self.view_is n c.requires c.self.inside.noted c.self.invariant.1 e g),
