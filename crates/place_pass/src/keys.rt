@@ -117,7 +117,7 @@ fn least_of(numbers: &[u128], from: usize, to: usize) -> u128
 pub(crate) struct Keys {
     numbers: Vec<u128>,
     floors: [u128; BLOCKS],
-    /// Whether the floor of a block may be raised, since a number was.
+    /// Whether the floor of a block may be raised, since the number that it was of is another one.
     stale: [bool; BLOCKS],
 }
 
@@ -163,10 +163,12 @@ impl Keys {
         ensures { self.new ≡ set self.old machine number }
     {
         let block = machine / BLOCK;
+        let floor = self.floors[block];
+        let before = self.numbers[machine];
         self.numbers[machine] = number;
-        if number < self.floors[block] {
+        if number < floor {
             self.floors[block] = number;
-        } else {
+        } else if before == floor {
             self.stale[block] = true;
         }
     }
@@ -182,11 +184,18 @@ impl Keys {
         self.stale[block] = false;
     }
 
-    /// Raises the floors under numbers that were raised.
+    /// Raises the floors under numbers that were raised. Where one block has all machines a walk reads its numbers as fast.
     pub(crate) fn raise(&mut self)
         ensures { self.new ≡ self.old }
     {
+        let machines = self.numbers.len();
+        if machines <= BLOCK {
+            return;
+        }
         for block in 0..BLOCKS {
+            if block * BLOCK >= machines {
+                return;
+            }
             if self.stale[block] {
                 self.raise_one(block);
             }

@@ -102,8 +102,8 @@ fn room_on(shelf: &Shelf<'_>, need: &Need, groups: &[GroupUse]) -> Sums
     }
 }
 
-// The rooms for units of the kind of a need.
-fn rooms_of(
+/// The rooms for units of the kind of a need.
+pub(crate) fn rooms_of(
     alloc: Global,
     table: &GrantTable,
     groups: &[GroupUse],
@@ -150,8 +150,8 @@ fn are_for(rooms: &Rooms, need: &Need) -> bool
     }
 }
 
-// The place of the rooms for units of the kind of a need.
-fn place_for(kinds: &[Rooms], need: &Need) -> Option<usize>
+/// The place of the rooms for units of the kind of a need.
+pub(crate) fn place_for(kinds: &[Rooms], need: &Need) -> Option<usize>
     ensures { IfSome result (IsPlaceFor need.now kinds.now) }
 {
     for at in 0..kinds.len() {
@@ -160,31 +160,4 @@ fn place_for(kinds: &[Rooms], need: &Need) -> Option<usize>
         }
     }
     None
-}
-
-/// The place of the rooms for units of the kind of a need. They are made where they are not there.
-pub(crate) fn rooms_at(
-    alloc: Global,
-    table: &GrantTable,
-    groups: &[GroupUse],
-    shelves: &[Shelf<'_>],
-    need: &Need,
-    kinds: &mut Vec<Rooms>,
-) -> Result<usize, OutOfMemory>
-    requires groups { AreGroups table.now groups.now }
-    requires shelves { AreShelves table.now groups.now shelves.now }
-    requires resources { need.now.resources ≡ table.now.cluster.resources }
-    requires own { need.now.group < 32 }
-    requires kinds { AllByRecursion (AreRooms table.now) kinds.old.items }
-    ensures rooms { OnOk result (AllByRecursion (AreRooms table.now) kinds.new.items) }
-    ensures place { IfOk result (IsPlaceFor need.now kinds.new.items) }
-{
-    match place_for(kinds, need) {
-        Some(at) => return Ok(at),
-        None => {}
-    }
-    let at = kinds.len();
-    let rooms = rooms_of(alloc, table, groups, shelves, need)?;
-    kinds.push(rooms)?;
-    Ok(at)
 }

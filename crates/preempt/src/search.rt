@@ -1,15 +1,18 @@
 //! The search: pairs of a waiting unit and a machine that accepts one more grant of it, by greater priority, place
 //! in the line and smaller machine.
 
-ghost use Rattle.std.specs.Prelude.{◌≡◌, ℕ, ◌+◌, ◌<◌, ◌≤◌, IfOk, IfSome, OnOk, length, map};
+ghost use Rattle.std.specs.Prelude.{◌≡◌, ℕ, ◌+◌, ◌<◌, ◌≤◌, true, false, IfOk, IfSome, IsSomeAnd, OnOk, length, map};
+ghost use Rattle.std.proofs.Common.{get_or};
 ghost use Rattle.std.specs.List.{AllByRecursion};
 ghost use Rattle.std.specs.Option.{option_map};
 ghost use Rattle.fuxi_terms.specs.Jobs.{unit_count};
+ghost use Rattle.fuxi_terms.specs.Lists.{below_each};
 ghost use Rattle.written_roles.specs.Placing.{Board};
 ghost use Rattle.written_roles.specs.Preemption.{plan_in};
 ghost use Rattle.grant_table.specs.GrantTables.{as_known};
 ghost use Rattle.preempt.specs.Given.{AreGroups, IsEntry, pair_of};
-ghost use Rattle.preempt.specs.MachineRooms.{AreRooms, AreRoomsFor};
+ghost use Rattle.preempt.specs.GroupSums.{no_sums};
+ghost use Rattle.preempt.specs.MachineRooms.{AreRooms, AreRoomsFor, IsFor, within_at};
 ghost use Rattle.preempt.specs.Plans.{IsBoardOf, CanBeMade, plan_as};
 ghost use Rattle.preempt.specs.Search.{IsFound, accepts_at, pairs_on, pairs_at};
 ghost use Rattle.preempt.specs.Shelves.{AreShelves, IsWanted};
@@ -19,7 +22,7 @@ use crate::entry::{Entry, GroupUse, Need, Sums};
 use crate::need::{need_of, victims_for, waiting_of};
 use crate::parts::Parts;
 use crate::plan::{Plan, Victims};
-use crate::room::{Rooms, is_within, rooms_at};
+use crate::room::{Rooms, is_within, place_for, rooms_of};
 use crate::shelf::{Shelf, groups_of, shelves_of};
 use crate::victims::Scratch;
 use crate::walk::{by_priority, holders_of, listing_of};
@@ -41,14 +44,26 @@ fn accepts<P: Asking>(table: &GrantTable, placer: &P, e: &Entry, machine: Machin
     table.held_on(e.app, e.unit, machine) < table.most(e.app, e.unit)
 }
 
-// The plan of the first machine on which a unit has victims. A machine without room for it is passed.
+// Whether a size needs more than there is room for on a machine, where the rooms are known.
+fn is_beyond(rooms: Option<&[Sums]>, need: &Need, size: &[u64; 8], machine: u32) -> bool
+    requires resources { need.now.resources ≤ 8 }
+    requires inside { IfSome rooms (λ each. machine < length each.now) }
+    ensures { result ≡ true → IsSomeAnd rooms.entry (λ each. below_each need.now.resources (within_at size.now (get_or each.now machine no_sums).q) ≡ false) }
+{
+    match rooms {
+        Some(each) => !is_within(need.resources, size, &each[machine as usize].q),
+        None => false,
+    }
+}
+
+// The plan of the first machine on which a unit has victims. Where the rooms are known a machine without room for it is passed.
 fn first_machine<P: Asking>(
     alloc: Global,
     table: &GrantTable,
     placer: &P,
     groups: &[GroupUse],
     shelves: &[Shelf<'_>],
-    rooms: &[Sums],
+    rooms: Option<&[Sums]>,
     e: &Entry,
     need: &Need,
     scratch: &mut Scratch,
@@ -57,13 +72,13 @@ fn first_machine<P: Asking>(
     requires groups { AreGroups table.now groups.now }
     requires shelves { AreShelves table.now groups.now shelves.now }
     requires wanted { IsWanted table.now e.now.app.0 e.now.unit.0 need.now }
-    requires rooms { AreRoomsFor table.now need.now rooms.now }
+    requires rooms { IfSome rooms (λ each. AreRoomsFor table.now need.now each.now) }
     ensures { IfOk result (IsFound table.now (P.usable placer.now) (pairs_on table.now (P.usable placer.now) (pair_of e.now))) }
 {
     let cluster = table.cluster();
     for number in 0..cluster.machines() {
         let machine = MachineNo(number);
-        if !is_within(need.resources, &e.size, &rooms[number as usize].q) {
+        if is_beyond(rooms, need, &e.size, number) {
             continue;
         }
         if !accepts(table, placer, e, machine) {
@@ -86,7 +101,44 @@ fn first_machine<P: Asking>(
     Ok(None)
 }
 
-// The plan of a unit that waits. No machine is looked at where none has room for it.
+// The plan of a unit for whose kind the rooms are known. No machine is looked at where none has room for it.
+fn plan_within<P: Asking>(
+    alloc: Global,
+    table: &GrantTable,
+    placer: &P,
+    groups: &[GroupUse],
+    shelves: &[Shelf<'_>],
+    rooms: &Rooms,
+    e: &Entry,
+    need: &Need,
+    scratch: &mut Scratch,
+) -> Result<Option<Plan>, OutOfMemory>
+    requires entry { IsEntry table.now e.now }
+    requires groups { AreGroups table.now groups.now }
+    requires shelves { AreShelves table.now groups.now shelves.now }
+    requires wanted { IsWanted table.now e.now.app.0 e.now.unit.0 need.now }
+    requires rooms { AreRooms table.now rooms.now }
+    requires kind { IsFor need.now rooms.now }
+    ensures { IfOk result (IsFound table.now (P.usable placer.now) (pairs_on table.now (P.usable placer.now) (pair_of e.now))) }
+{
+    let _cluster = table.cluster();
+    if !is_within(need.resources, &e.size, &rooms.widest) {
+        return Ok(None);
+    }
+    first_machine(
+        alloc,
+        table,
+        placer,
+        groups,
+        shelves,
+        Some(&rooms.each),
+        e,
+        need,
+        scratch,
+    )
+}
+
+// The plan of a unit that waits. The rooms for units of its kind are made once one of them was tried in vain.
 fn unit_plan<P: Asking>(
     alloc: Global,
     table: &GrantTable,
@@ -109,22 +161,18 @@ fn unit_plan<P: Asking>(
         Some(need) => need,
         None => return Ok(None),
     };
-    let at = rooms_at(alloc, table, groups, shelves, &need, kinds)?;
-    let rooms = &kinds[at];
-    if !is_within(need.resources, &e.size, &rooms.widest) {
-        return Ok(None);
+    if let Some(at) = place_for(kinds, &need) {
+        return plan_within(
+            alloc, table, placer, groups, shelves, &kinds[at], e, &need, scratch,
+        );
     }
-    first_machine(
-        alloc,
-        table,
-        placer,
-        groups,
-        shelves,
-        &rooms.each,
-        e,
-        &need,
-        scratch,
-    )
+    let found = first_machine(
+        alloc, table, placer, groups, shelves, None, e, &need, scratch,
+    )?;
+    if found.is_none() {
+        kinds.push(rooms_of(alloc, table, groups, shelves, &need)?)?;
+    }
+    Ok(found)
 }
 
 // The plan of the first unit of a priority that has victims.
@@ -166,8 +214,9 @@ fn first_unit<P: Asking>(
 ///
 /// The time is linear in the units that have grants on a machine, whatever their counts, for each pair; a pair of
 /// which nothing may be taken costs one test, and so does one whose machine would have no room for it with all taken
-/// that may be. Memory is asked once for the units, for what they have on each machine and for what there would be
-/// room for, by group and priority, and no more for a pair without victims once a list has its room.
+/// that may be, once a unit of its group and priority was tried in vain. Memory is asked once for the units, for what
+/// they have on each machine and for what there would be room for, and no more for a pair without victims once a list
+/// has its room.
 pub fn find<P: Asking, L: Ledger>(
     alloc: Global,
     table: &GrantTable,

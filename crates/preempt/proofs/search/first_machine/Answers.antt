@@ -1,24 +1,48 @@
-use Rattle.std.proofs.Common.{◌≡◌, ◌<◌, None, Some, length, sym, ◌∙◌, ap, subst, arith}
-use Rattle.std.specs.Prelude.{MatchOption, IfSome}
+use Rattle.std.proofs.Common.{◌≡◌, ℕ, ◌<◌, false, List, Option, None, Some, Bor, length, get_or, sym, ◌∙◌, ap, subst, arith}
+use Rattle.std.specs.Prelude.{MatchOption, IfSome, IsSomeAnd}
+use Rattle.fuxi_terms.specs.Lists.{below_each}
+use Rattle.grant_table.specs.GrantTables.{TableRecord}
+use Rattle.preempt.specs.declared.entry.Entry.{Entry}
+use Rattle.preempt.specs.declared.entry.Need.{Need}
+use Rattle.preempt.specs.declared.entry.Sums.{Sums}
+use Rattle.preempt.specs.GroupSums.{no_sums}
+use Rattle.preempt.specs.MachineRooms.{AreRoomsFor, within_at}
+use Rattle.preempt.specs.Shelves.{IsWanted}
 use Rattle.fuxi_terms.specs.Cluster.{ClusterRecord}
 use Rattle.fuxi_terms.specs.Tables.{spot}
 use Rattle.written_roles.specs.Preemption.{victims_in}
-use Rattle.preempt.specs.Given.{board_of, pair_of}
+use Rattle.preempt.specs.Given.{board_of, pair_of, IsEntry}
 use Rattle.preempt.specs.Plans.{AreTakable, losers_of}
 use Rattle.preempt.proofs.CountedAsWritten.{at_index}
 use Rattle.preempt.proofs.MachineRoomsLemmas.{machine_beyond}
 use Rattle.preempt.proofs.Served.{shelf_at, passed_closed, passed_none, passed_without, found_here}
 use Rattle.preempt.proofs.search.first_machine.Goals as goal
 
-pub loop-number-preserved-then-not-is_within : goal.loop-number-preserved-then-not-is_within
-loop-number-preserved-then-not-is_within g c =
+rooms_inside : (t : TableRecord) (n : Need) (o : Option (Bor (List Sums))) (m : ℕ) → m < length t.cluster.machines → IfSome o (λ each. AreRoomsFor t n each.now) → IfSome o (λ each. m < length each.now)
+rooms_inside t n None m lt h = tt
+rooms_inside t n (Some each) m lt h = let long = h.long in omega (arith, lt, long)
+
+-- where the rooms are known
+none_beyond : (t : TableRecord) (e : Entry) → IsEntry t e → (n : Need) → IsWanted t e.app.0 e.unit.0 n → (o : Option (Bor (List Sums))) (m : ℕ) → m < length t.cluster.machines → IfSome o (λ each. AreRoomsFor t n each.now)
+    → IsSomeAnd o (λ each. below_each n.resources (within_at e.size (get_or each.now m no_sums).q) ≡ false) → victims_in (board_of t) t.entries (spot e.app.0 e.unit.0 m) ≡ None
+none_beyond t e entry n wanted None m lt rooms beyond = absurd beyond
+none_beyond t e entry n wanted (Some each) m lt rooms beyond = machine_beyond t e entry n wanted each.now m rooms lt beyond
+
+pub is_beyond-requires-clause-inside : goal.is_beyond-requires-clause-inside
+is_beyond-requires-clause-inside g c =
+    let t = c.args.table.now in
+    let same = ap (λ (x : ClusterRecord). length x.machines) c.cluster-cluster.ensures.cluster in
+    rooms_inside t c.args.need.now c.args.rooms c.loop-number.number (let a = c.loop-number-test.true in let b = c.machines-number-end.ensures.number in omega (arith, a, b, same)) c.requires.rooms
+
+pub loop-number-preserved-then-is_beyond : goal.loop-number-preserved-then-is_beyond
+loop-number-preserved-then-is_beyond g c =
     let t = c.args.table.now in
     let e = c.args.e.now in
     let n = c.loop-number.number in
     let same = ap (λ (x : ClusterRecord). length x.machines) c.cluster-cluster.ensures.cluster in
     let there : n < length t.cluster.machines = let a = c.loop-number-test.true in let b = c.machines-number-end.ensures.number in omega (arith, a, b, same) in
     passed_none t (g.P.Asking.usable c.args.placer.now) (pair_of e) n
-    (machine_beyond t e c.requires.entry c.args.need.now c.requires.wanted c.args.rooms.now n c.requires.rooms there (sym c.is_within.ensures ∙ c.if-not-is_within.true))
+    (none_beyond t e c.requires.entry c.args.need.now c.requires.wanted c.args.rooms n there c.requires.rooms (c.is_beyond.ensures c.if-is_beyond.true))
     c.loop-number.invariant
 
 pub loop-number-preserved-then-not-accepts : goal.loop-number-preserved-then-not-accepts
