@@ -1,6 +1,7 @@
 //! Writing frames.
 
-ghost use Rattle.std.specs.Prelude.{◌≡◌, ◌+◌, ◌*◌, ◌≤◌, ◌++◌, length, vec_len, vec_capacity, OnOk, OnErr};
+ghost use Rattle.std.specs.Prelude.{◌≡◌, ◌+◌, ◌*◌, ◌≤◌, ◌++◌, length, OnOk, OnErr};
+ghost use Rattle.std.specs.Int.{to_be_bytes, w32};
 ghost use Rattle.fuxi_terms.specs.Limits.{most_body_bytes};
 ghost use Rattle.fuxi_terms.specs.TallyKeys.{greatest_grant, greatest_demand};
 ghost use Rattle.ledger_law.specs.Shapes.{IsTally};
@@ -36,38 +37,58 @@ fn role_byte(role: Role) -> u8
     }
 }
 
-// Where there is room for 13 bytes.
-fn write_party(party: &Party, out: &mut Vec<u8>)
-    requires { vec_len out.old + 13 ≤ vec_capacity out.old }
-    ensures items { out.new.items ≡ out.old.items ++ party_bytes party.now }
-    ensures len { vec_len out.new ≡ vec_len out.old + 13 }
-    ensures capacity { vec_capacity out.old ≤ vec_capacity out.new }
+// The bytes of a party.
+fn bytes_of_party(party: &Party) -> [u8; 13]
+    ensures { result ≡ party_bytes party.now }
 {
-    append(&[role_byte(party.role)], out);
-    append(&party.number.to_be_bytes(), out);
-    append(&party.inc.to_be_bytes(), out);
+    let [n0, n1, n2, n3] = party.number.to_be_bytes();
+    let [i0, i1, i2, i3, i4, i5, i6, i7] = party.inc.to_be_bytes();
+    let role = role_byte(party.role);
+    [role, n0, n1, n2, n3, i0, i1, i2, i3, i4, i5, i6, i7]
 }
 
-// Where there is room for 16 bytes.
-fn write_place(place: &Place, out: &mut Vec<u8>)
-    requires { vec_len out.old + 16 ≤ vec_capacity out.old }
-    ensures items { out.new.items ≡ out.old.items ++ place_bytes place.now }
-    ensures len { vec_len out.new ≡ vec_len out.old + 16 }
-    ensures capacity { vec_capacity out.old ≤ vec_capacity out.new }
+// The bytes of a place.
+fn bytes_of_place(place: &Place) -> [u8; 16]
+    ensures { result ≡ place_bytes place.now }
 {
-    append(&place.inc.to_be_bytes(), out);
-    append(&place.seq.to_be_bytes(), out);
+    let [i0, i1, i2, i3, i4, i5, i6, i7] = place.inc.to_be_bytes();
+    let [s0, s1, s2, s3, s4, s5, s6, s7] = place.seq.to_be_bytes();
+    [
+        i0, i1, i2, i3, i4, i5, i6, i7, s0, s1, s2, s3, s4, s5, s6, s7,
+    ]
 }
 
-// Where there is room for 44 bytes.
-fn write_header(packet: &Packet, out: &mut Vec<u8>)
-    requires { vec_len out.old + 44 ≤ vec_capacity out.old }
-    ensures { out.new.items ≡ out.old.items ++ header_bytes packet.now }
+// What stands in front of a body: the length of what follows it, and the header. In one piece, since each piece is tested for room.
+fn front_of(packet: &Packet, length: u32) -> [u8; FRONT_BYTES]
+    ensures { result ≡ to_be_bytes w32 length ++ header_bytes packet.now }
 {
-    append(&[VERSION, kind_byte(packet.kind)], out);
-    write_party(&packet.from, out);
-    write_party(&packet.to, out);
-    write_place(&packet.place, out);
+    let [l0, l1, l2, l3] = length.to_be_bytes();
+    let kind = kind_byte(packet.kind);
+    let [f0, f1, f2, f3, f4, f5, f6, f7, f8, f9, f10, f11, f12] = bytes_of_party(&packet.from);
+    let [t0, t1, t2, t3, t4, t5, t6, t7, t8, t9, t10, t11, t12] = bytes_of_party(&packet.to);
+    let [
+        p0,
+        p1,
+        p2,
+        p3,
+        p4,
+        p5,
+        p6,
+        p7,
+        p8,
+        p9,
+        p10,
+        p11,
+        p12,
+        p13,
+        p14,
+        p15,
+    ] = bytes_of_place(&packet.place);
+    [
+        l0, l1, l2, l3, VERSION, kind, f0, f1, f2, f3, f4, f5, f6, f7, f8, f9, f10, f11, f12, t0,
+        t1, t2, t3, t4, t5, t6, t7, t8, t9, t10, t11, t12, p0, p1, p2, p3, p4, p5, p6, p7, p8, p9,
+        p10, p11, p12, p13, p14, p15,
+    ]
 }
 
 // How many bytes the body has.
@@ -164,8 +185,7 @@ pub fn write_packet(packet: &Packet, out: &mut Vec<u8>) -> Result<(), OutOfMemor
     let length = frame_length(packet);
     let start = out.len();
     out.reserve(length)?;
-    append(&((length - LENGTH_BYTES) as u32).to_be_bytes(), out);
-    write_header(packet, out);
+    append(&front_of(packet, (length - LENGTH_BYTES) as u32), out);
     match write_body(&packet.body, out) {
         Ok(()) => Ok(()),
         Err(fault) => {
