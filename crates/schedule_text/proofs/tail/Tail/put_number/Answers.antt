@@ -1,7 +1,6 @@
 use Rattle.std.proofs.Common.{◌≡◌, ◌++◌, ◌∷◌, [], ◌/◌, ◌%◌, ◌+◌, ◌<◌, ◌≤◌, ◌^◌, ℕ, length, length-append, decimal, sym, ◌∙◌, ap, refl, subst, arith}
 use Rattle.std.proofs.lemmas.List.{append_assoc}
 use Rattle.std.proofs.lemmas.Fmt.{decimal_digit, decimal_nonempty, decimal_step, length-decimal-le}
-use Rattle.schedule_unit.proofs.Decimals.{two_digits}
 use Rattle.schedule_text.proofs.tail.Tail.put_number.Invariants.{IsPut}
 use Rattle.schedule_text.proofs.tail.Tail.put_number.Goals as goal
 
@@ -22,6 +21,10 @@ pub loop-left-init : goal.loop-left-init
 loop-left-init c =
     let few = length-decimal-le 20 c.args.number (omega arith) (omega arith) c.ranges.number.fits in
     record { text = refl; small = c.ranges.number.fits; room = omega (arith, few) }
+
+-- and all of one that has two
+both_digits : (n : ℕ) → 10 ≤ n → n < 100 → decimal n ≡ (48 + n / 10) ∷ (48 + n % 10) ∷ []
+both_digits n low high = decimal_step n low (omega (arith, high)) ∙ ap (λ ds. ds ++ (48 + n % 10) ∷ []) (decimal_digit (n / 10) (omega (arith, high)))
 
 two_longer : (n : ℕ) → 100 ≤ n → n < 2 ^ 64 → length (decimal n) ≡ length (decimal (n / 100)) + 2
 two_longer n le small = ap length (last_two n le small) ∙ length-append (decimal (n / 100)) ((48 + n % 100 / 10) ∷ (48 + n % 100 % 10) ∷ [])
@@ -46,16 +49,16 @@ loop-left-preserved c =
     })
 
 pub put_pair-requires-then-left-ge10-clause-room : goal.put_pair-requires-then-left-ge10-clause-room
-put_pair-requires-then-left-ge10-clause-room c = omega (arith, c.requires.room, c.loop-left.invariant.room, ap length (two_digits c.loop-left.left (omega (arith, c.if-left-ge10.true)) (omega (arith, c.loop-left-test.false))))
+put_pair-requires-then-left-ge10-clause-room c = omega (arith, c.requires.room, c.loop-left.invariant.room, ap length (both_digits c.loop-left.left (omega (arith, c.if-left-ge10.true)) (omega (arith, c.loop-left-test.false))))
 
 pub returns-then-left-ge10-clause-is : goal.returns-then-left-ge10-clause-is
 returns-then-left-ge10-clause-is c =
     let was = c.loop-left.invariant in
-    let digits = two_digits c.loop-left.left (omega (arith, c.if-left-ge10.true)) (omega (arith, c.loop-left-test.false)) in
+    let digits = both_digits c.loop-left.left (omega (arith, c.if-left-ge10.true)) (omega (arith, c.loop-left-test.false)) in
     c.put_pair-then-left-ge10.ensures.is ∙ ap (λ ds. ds ++ c.loop-left.self) (sym digits) ∙ was.text
 
 pub returns-then-left-ge10-clause-short : goal.returns-then-left-ge10-clause-short
-returns-then-left-ge10-clause-short c = omega (arith, c.put_pair-then-left-ge10.ensures.long, c.loop-left.invariant.room, ap length (two_digits c.loop-left.left (omega (arith, c.if-left-ge10.true)) (omega (arith, c.loop-left-test.false))))
+returns-then-left-ge10-clause-short c = omega (arith, c.put_pair-then-left-ge10.ensures.long, c.loop-left.invariant.room, ap length (both_digits c.loop-left.left (omega (arith, c.if-left-ge10.true)) (omega (arith, c.loop-left-test.false))))
 
 pub put-requires : goal.put-requires
 put-requires c = record { room = omega (arith, c.requires.room, c.loop-left.invariant.room, decimal_nonempty c.loop-left.left c.loop-left.invariant.small) }
