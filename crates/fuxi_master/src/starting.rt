@@ -33,7 +33,7 @@ fn agents_started(
     ensures wide { IfOk result (λ sides. length sides.items ≡ machines) }
     ensures each { IfOk result (λ sides. AllByRecursion (IsDownStarted epoch) sides.items) }
 {
-    let mut sides = Vec::new(alloc);
+    let mut sides = Vec::with_capacity(alloc, machines as usize)?;
     for _ in 0..machines {
         sides.push(Side::start(alloc, epoch)?)?;
     }
@@ -73,7 +73,7 @@ fn apps_started(
 ) -> Result<Vec<Option<Side<Grants, Demand>>>, OutOfMemory>
     ensures { IfOk result (λ slots. AreAppsStarted epoch known.now.jobs 256 slots.items) }
 {
-    let mut slots = Vec::new(alloc);
+    let mut slots = Vec::with_capacity(alloc, MOST_JOBS as usize)?;
     for number in 0..MOST_JOBS {
         slots.push(slot_started(alloc, epoch, known, AppNo(number))?)?;
     }
