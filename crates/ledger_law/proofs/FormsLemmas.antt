@@ -10,7 +10,7 @@ use Rattle.std.proofs.Math.Nat.{mul-le-mul_right}
 use Rattle.ledger_law.specs.Forms.{counted}
 
 module _ {E : Type 0} (form : E → List ℕ) (V : E → Type 0) (width : ℕ) (wide : (e : E) → V e → length (form e) ≡ width) where
-  length_all : (es : List E) → AllByRecursion V es → length (flat_map form es) ≡ length es * width
+  pub length_all : (es : List E) → AllByRecursion V es → length (flat_map form es) ≡ length es * width
   length_all [] h = omega arith
   length_all (e ∷ es) h = omega (arith, length-append (form e) (flat_map form es), wide e h.0, length_all es h.1)
 

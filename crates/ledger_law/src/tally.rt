@@ -7,10 +7,12 @@ ghost use Rattle.fuxi_terms.specs.Keys.{key_cmp};
 ghost use Rattle.fuxi_terms.specs.Counts.{AreCounts, AreChanges, count, moved_within, change_one, change_all, is_no_change};
 ghost use Rattle.fuxi_terms.specs.declared.answers.LedgerFault.TheVariants.{Below, TooGreat};
 ghost use Rattle.ledger_law.specs.Applying.{Applies, IsRefusal};
+ghost use Rattle.ledger_law.specs.Forms.{change_entry, change_form, headed, IsChangeEntry};
+ghost use Rattle.ledger_law.specs.ReadForms.{Reads};
 ghost use Rattle.ledger_law.specs.Shapes.{kept_under, AreChangesWithin, IsChange};
 
 use crate::entries::{count_at, count_of, keys_rise, moved, place_of, set_entry};
-use crate::forms::{Changes, Numbers, read_headed, write_headed};
+use crate::forms::{Changes, EntryForm, Numbers, read_headed, write_headed};
 use crate::ledger::{BodyFault, Key, Ledger, LedgerFault, OutOfMemory};
 use smallvec::SmallVec;
 use std::alloc::Global;
@@ -339,6 +341,50 @@ fn change_all<S: Shape>(
     Ok(())
 }
 
+// Appends a head and the counted changes; one entry, as most changes have, in one piece. The bytes are as they
+// were after a refusal.
+fn write_change(head: u64, entries: &[(Key, i64)], out: &mut Vec<u8>) -> Result<(), OutOfMemory>
+    requires entries { All IsChangeEntry entries.now }
+    requires few { length entries.now < 2 ^ 32 }
+    ensures ok { OnOk result (out.new.items ≡ out.old.items ++ headed change_entry head entries.now) }
+    ensures err { OnErr result (out.new.items ≡ out.old.items) }
+{
+    let [(key, change)] = entries else {
+        return write_headed::<Changes>(head, entries, out);
+    };
+    let [n0, n1] = (key.number as u16).to_be_bytes();
+    let rows = [
+        head.to_be_bytes(),
+        [0, 0, 0, 1, key.what, key.unit, n0, n1],
+        change.cast_unsigned().to_be_bytes(),
+    ];
+    out.extend_from_slice(rows.as_flattened())?;
+    Ok(())
+}
+
+// The change that has these bytes, which are as many as one with a single entry takes. It takes no memory.
+fn read_single<S: Shape>(alloc: Global, body: &[u8]) -> Result<Change, BodyFault>
+    requires { length body.now ≡ 24 }
+    ensures { Reads (IsChange S.greatest_of) change_form body.now result }
+{
+    let (front, rest) = body.split_at(8);
+    let head = u64::from_be_bytes([
+        front[0], front[1], front[2], front[3], front[4], front[5], front[6], front[7],
+    ]);
+    let (front, entry) = rest.split_at(4);
+    if u32::from_be_bytes([front[0], front[1], front[2], front[3]]) != 1 {
+        return Err(BodyFault::NotBody);
+    }
+    let (key, change) = Changes::read(entry);
+    if change == 0 || change.unsigned_abs() > S::greatest(&key) {
+        return Err(BodyFault::NotBody);
+    }
+    Ok(Change {
+        head,
+        entries: SmallVec::from_buf(alloc, [(key, change)]),
+    })
+}
+
 impl<S: Shape> Ledger for Tally<S> {
     type Delta = Change;
 
@@ -420,10 +466,13 @@ impl<S: Shape> Ledger for Tally<S> {
     }
 
     fn write_delta(change: &Change, out: &mut Vec<u8>) -> Result<(), OutOfMemory> {
-        write_headed::<Changes>(change.head, &change.entries, out)
+        write_change(change.head, &change.entries, out)
     }
 
     fn read_delta(alloc: Global, body: &[u8]) -> Result<Change, BodyFault> {
+        if body.len() == 24 {
+            return read_single::<S>(alloc, body);
+        }
         let (head, entries) = read_headed::<Changes>(alloc, body)?;
         if !are_changes::<S>(&entries) {
             return Err(BodyFault::NotBody);
