@@ -1,6 +1,7 @@
 -- Changes to a row: each of them tested on the entries as they are, and then made.
 use Rattle.std.proofs.Common.{◌≡◌, ℕ, ◌+◌, ◌<◌, ◌≤◌, Bool, true, false, cond, nat_lt, nat_eq, List, [], ◌∷◌, length, get_or, drop, Option, Some, None, Result, Ok, Err, refl, sym, ◌∙◌, ap, subst, arith, add-one, drop-cons, lit≤}
-use Rattle.std.specs.Prelude.{ℤ, T, IsOk}
+use Rattle.std.specs.Prelude.{ℤ, pos, negsuc, zero, suc, T, IsOk, unsigned_abs}
+use Rattle.std.proofs.lemmas.List.Elements.{All-from_recursion}
 use Rattle.std.specs.Option.{is_some}
 use Rattle.std.specs.Ordering.{eq_by_cmp, is_eq}
 use Rattle.std.specs.Cmp.{tied_itself}
@@ -8,13 +9,13 @@ use Rattle.std.specs.FinMap.Entries.{below_all, find, is_sorted}
 use Rattle.std.proofs.lemmas.Bool.Decides.{nat_tests}
 use Rattle.std.proofs.lemmas.List.{drop_all}
 use Rattle.fuxi_terms.specs.Keys.{RowKey, row_cmp}
-use Rattle.fuxi_terms.specs.Counts.{moved, in_bounds, moved_within, count, set_count, change_one, then_do, AreCounts}
+use Rattle.fuxi_terms.specs.Counts.{moved, is_no_change, in_bounds, moved_within, count, set_count, change_one, then_do, AreCounts}
 use Rattle.fuxi_terms.specs.declared.answers.LedgerFault.{LedgerFault}
 use Rattle.fuxi_terms.proofs.CountsLemmas.{both_true, tied, below_none, count_le, count-set_count, counts-set_count, length-set_count}
 use Rattle.fuxi_terms.proofs.ChangesInTurn.{made_one}
 use Rattle.fuxi_terms.proofs.TestedAlone.{change_one_is}
 use Rattle.fuxi_terms.proofs.KeyOrders.{row_key_total, same_row_key}
-use Rattle.fuxi_terms.specs.Rows.{IsRow, is_row_key, greatest_row, patched_row, change_row_once, within_row, row_below, row_too_great}
+use Rattle.fuxi_terms.specs.Rows.{IsRow, AreRowChanges, is_row_key, greatest_row, patched_row, change_row_once, within_row, row_below, row_too_great}
 use Rattle.fuxi_terms.specs.Limits.{most_entries}
 
 abbrev Entries : Type 0
@@ -46,6 +47,22 @@ made_within k kept change n is = by (moved kept change) is
     by : (o : Option ℕ) → in_bounds row_below row_too_great greatest_row k kept change o ≡ Ok n → n ≤ greatest_row k
     by None e = cc
     by (Some m) e = at m (nat_lt (greatest_row k) m) refl e
+
+real_change : (z : ℤ) → is_no_change z ≡ false → 0 < unsigned_abs z
+real_change (pos zero) e = cc
+real_change (pos (suc n)) e = omega arith
+real_change (negsuc n) e = omega arith
+
+-- a change of a row is of a key, since it is not 0
+pub is_changed_key : (cs : List (RowKey × ℤ)) → AreRowChanges cs → (i : ℕ) (c : RowKey × ℤ) → c ≡ get_or cs i c → i < length cs → is_row_key c.0 ≡ true
+is_changed_key cs h i c is lt =
+    let real = All-from_recursion (λ c. is_no_change c.1 ≡ false) cs h.changes.real i c lt in
+    let within = All-from_recursion (λ c. unsigned_abs c.1 ≤ greatest_row c.0) cs h.within i c lt in
+    subst (λ c. is_row_key c.0 ≡ true) (sym is) (by (is_row_key (get_or cs i c).0) (omega (arith, real_change (get_or cs i c).1 real, within)))
+  where
+    by : (b : Bool) → 0 < cond b 100000 0 → b ≡ true
+    by true h = refl
+    by false h = absurd (omega (arith, h))
 
 pub row_start : (es : Entries) (cs : List (RowKey × ℤ)) → IsRow es → T (is_sorted row_cmp cs) → IsTestedTo es cs 0 (length es)
 row_start es cs row s = record { mid = es; row = row; long = refl; rising = s; made = refl; untouched = λ q _. refl }

@@ -1,7 +1,7 @@
 //! Packets: what one party tells another, with its content.
 
 ghost use Rattle.std.specs.Prelude.{◌≡◌, ◌↔◌, ◌++◌, ◌∷◌, [], IsTrue, OnOk, OnErr};
-ghost use Rattle.party_ledgers.specs.Packets.{IsFormed, IsBodyOf, is_number_of, are_parties, is_place_of, is_bare, is_full, is_delta, to_agent, to_app};
+ghost use Rattle.party_ledgers.specs.Packets.{IsFormed, IsBodyOf, are_parties, is_place_of, is_bare, is_full, is_delta, to_agent, to_app};
 
 use crate::join::JoinLedger;
 use crate::row_ledger::{RowChange, RowLedger};
@@ -92,29 +92,20 @@ fn to_app(from: Role, to: Role) -> bool
     matches!(from, Role::Master) && matches!(to, Role::App)
 }
 
-// Whether a party of a role may have the number.
-fn is_number_of(role: Role, number: u32) -> bool
-    ensures { result ≡ is_number_of role number }
-{
-    match role {
-        Role::Master => number == 0,
-        Role::Agent | Role::App => (number as usize) < MOST_MACHINES,
-    }
-}
-
 /// Whether a packet may go from one party to the other: one is the master and the other an agent or an
 /// application, each has a number of its role, and the sender has an incarnation.
 pub fn are_parties(from: &Party, to: &Party) -> bool
     ensures { result ≡ are_parties from.now to.now }
 {
-    let is_channel = to_agent(from.role, to.role)
-        || to_app(from.role, to.role)
-        || to_agent(to.role, from.role)
-        || to_app(to.role, from.role);
-    is_channel
-        && is_number_of(from.role, from.number)
-        && is_number_of(to.role, to.number)
-        && from.inc > 0
+    match (from.role, to.role) {
+        (Role::Master, Role::Agent | Role::App) => {
+            from.number == 0 && (to.number as usize) < MOST_MACHINES && from.inc > 0
+        }
+        (Role::Agent | Role::App, Role::Master) => {
+            (from.number as usize) < MOST_MACHINES && to.number == 0 && from.inc > 0
+        }
+        _ => false,
+    }
 }
 
 /// Whether a packet of this kind, of a sender of this incarnation, may have this place.

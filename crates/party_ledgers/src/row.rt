@@ -9,7 +9,7 @@ ghost use Rattle.fuxi_terms.specs.Vectors.{is_zero};
 ghost use Rattle.fuxi_terms.specs.Counts.{AreCounts, AreChanges, count, moved_within, set_count, is_no_change};
 ghost use Rattle.ledger_law.specs.Applying.{IsRefusal};
 ghost use Rattle.party_ledgers.specs.PairCodes.{pair_code};
-ghost use Rattle.fuxi_terms.specs.Rows.{IsRow, AreRowChanges, greatest_row, patched_row, change_row_once, row_below, row_too_great, fault_key};
+ghost use Rattle.fuxi_terms.specs.Rows.{IsRow, AreRowChanges, is_row_key, greatest_row, patched_row, change_row_once, row_below, row_too_great, fault_key};
 
 use fuxi_terms::limits::{GREATEST_COUNT, GREATEST_QUANTITY, MOST_ENTRIES, MOST_JOBS, MOST_UNITS};
 use ledger_law::entries::{EntryKey, count_at, count_of, moved, place_of, set_entry};
@@ -97,9 +97,10 @@ pub(crate) fn greatest(key: &RowKey) -> u64
     }
 }
 
-// What a change makes of the number at its key.
+// What a change makes of the number at its key, which is one that a row may have.
 fn moved_within(key: &RowKey, kept: u64, change: i64) -> Result<u64, LedgerFault>
-    requires { kept < 2 ^ 62 }
+    requires kept { kept < 2 ^ 62 }
+    requires key { IsTrue (is_row_key key.now) }
     ensures { result ≡ moved_within row_below row_too_great greatest_row key.now kept change }
 {
     let Some(n) = moved(kept, change) else {
@@ -109,7 +110,7 @@ fn moved_within(key: &RowKey, kept: u64, change: i64) -> Result<u64, LedgerFault
             change,
         });
     };
-    if n > greatest(key) {
+    if n > GREATEST_COUNT {
         return Err(LedgerFault::TooGreat {
             key: fault_key(key),
         });
@@ -137,7 +138,7 @@ pub(crate) fn test_changes(
     changes: &[(RowKey, i64)],
 ) -> Result<(), LedgerFault>
     requires row { IsRow entries.now }
-    requires sorted { T (is_sorted row_cmp changes.now) }
+    requires changes { AreRowChanges changes.now }
     ensures ok { OnOk result (IsOk (patched_row entries.now changes.now)) }
     ensures err { IfErr result (λ fault. patched_row entries.now changes.now ≡ Err fault) }
 {
@@ -192,7 +193,7 @@ pub(crate) fn change_all(
     changes: &[(RowKey, i64)],
 ) -> Result<(), LedgerFault>
     requires row { IsRow entries.old.items }
-    requires sorted { T (is_sorted row_cmp changes.now) }
+    requires changes { AreRowChanges changes.now }
     ensures ok { OnOk result (patched_row entries.old.items changes.now ≡ Ok entries.new.items) }
     ensures err { OnErr result (entries.new.items ≡ entries.old.items) }
     ensures fault { IfErr result (IsRefusal (patched_row entries.old.items changes.now)) }

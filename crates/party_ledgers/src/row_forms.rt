@@ -1,25 +1,13 @@
 //! How the entries of a row are written: job (4 bytes), unit (1), eight places of the size (8 each), and
 //! the count or the change (4).
 
-ghost use Rattle.std.specs.Prelude.{◌≡◌, ◌+◌, ◌<◌, ◌≤◌, ◌^◌, ◌++◌, List, ℕ, length, vec_len, vec_capacity};
+ghost use Rattle.std.specs.Prelude.{◌≡◌, ◌+◌, ◌<◌, ◌≤◌, ◌^◌, ◌++◌, List, ℕ, length, take, drop, vec_len, vec_capacity};
 ghost use Rattle.std.specs.List.{All, flat_map};
-ghost use Rattle.std.specs.Int.{to_be_bytes, w64};
+ghost use Rattle.std.specs.Int.{to_be_bytes, w32, w64};
 ghost use Rattle.party_ledgers.specs.RowForms.{row_key_bytes, IsWholeKey};
 
 use crate::row::RowKey;
 use ledger_law::forms::{EntryForm, append};
-
-// The eight places, one after another.
-fn write_size(size: &[u64; 8], out: &mut Vec<u8>)
-    requires { vec_len out.old + 64 ≤ vec_capacity out.old }
-    ensures items { out.new.items ≡ out.old.items ++ flat_map (to_be_bytes w64) size.now }
-    ensures len { vec_len out.new ≡ vec_len out.old + 64 }
-    ensures capacity { vec_capacity out.old ≤ vec_capacity out.new }
-{
-    for quantity in size {
-        append(&quantity.to_be_bytes(), out);
-    }
-}
 
 // The eight places that have these bytes.
 fn read_size(bytes: &[u8]) -> [u64; 8]
@@ -40,15 +28,36 @@ fn read_size(bytes: &[u8]) -> [u64; 8]
     size
 }
 
-fn write_key(key: &RowKey, out: &mut Vec<u8>)
-    requires { vec_len out.old + 69 ≤ vec_capacity out.old }
-    ensures items { out.new.items ≡ out.old.items ++ row_key_bytes key.now }
-    ensures len { vec_len out.new ≡ vec_len out.old + 69 }
+// The bytes of a key and a number, behind three bytes and before four that are of no use: each place of the
+// size is a row of its own, so that it is stored whole.
+fn entry_rows(key: &RowKey, value: u32) -> [[u8; 8]; 10]
+    ensures { take 73 (drop 3 (flat_map (λ row. row) result)) ≡ row_key_bytes key.now ++ to_be_bytes w32 value }
+{
+    let [j0, j1, j2, j3] = key.job.to_be_bytes();
+    let [v0, v1, v2, v3] = value.to_be_bytes();
+    let [q0, q1, q2, q3, q4, q5, q6, q7] = key.size;
+    [
+        [0, 0, 0, j0, j1, j2, j3, key.unit],
+        q0.to_be_bytes(),
+        q1.to_be_bytes(),
+        q2.to_be_bytes(),
+        q3.to_be_bytes(),
+        q4.to_be_bytes(),
+        q5.to_be_bytes(),
+        q6.to_be_bytes(),
+        q7.to_be_bytes(),
+        [v0, v1, v2, v3, 0, 0, 0, 0],
+    ]
+}
+
+// The bytes of a key and a number, in one piece.
+fn write_entry(key: &RowKey, value: u32, out: &mut Vec<u8>)
+    requires { vec_len out.old + 73 ≤ vec_capacity out.old }
+    ensures items { out.new.items ≡ out.old.items ++ row_key_bytes key.now ++ to_be_bytes w32 value }
+    ensures len { vec_len out.new ≡ vec_len out.old + 73 }
     ensures capacity { vec_capacity out.old ≤ vec_capacity out.new }
 {
-    append(&key.job.to_be_bytes(), out);
-    append(&[key.unit], out);
-    write_size(&key.size, out);
+    append(&entry_rows(key, value).as_flattened()[3..76], out);
 }
 
 fn read_key(bytes: &[u8]) -> RowKey
@@ -89,8 +98,7 @@ impl EntryForm for RowNumbers {
     const WIDTH: usize = 73;
 
     fn write(entry: &(RowKey, u64), out: &mut Vec<u8>) {
-        write_key(&entry.0, out);
-        append(&(entry.1 as u32).to_be_bytes(), out);
+        write_entry(&entry.0, entry.1 as u32, out);
     }
 
     fn read(bytes: &[u8]) -> (RowKey, u64) {
@@ -125,8 +133,7 @@ impl EntryForm for RowChanges {
     const WIDTH: usize = 73;
 
     fn write(entry: &(RowKey, i64), out: &mut Vec<u8>) {
-        write_key(&entry.0, out);
-        append(&(entry.1 as i32).to_be_bytes(), out);
+        write_entry(&entry.0, (entry.1 as i32).cast_unsigned(), out);
     }
 
     fn read(bytes: &[u8]) -> (RowKey, i64) {

@@ -4,7 +4,7 @@ ghost use Rattle.std.specs.Prelude.{◌≡◌, ◌-◌, ◌<◌, ◌≤◌, ◌^
 ghost use Rattle.std.specs.List.{All};
 ghost use Rattle.std.specs.FinMap.Entries.{is_sorted};
 ghost use Rattle.fuxi_terms.specs.Keys.{row_cmp};
-ghost use Rattle.fuxi_terms.specs.Rows.{IsRow, patched_row, row_total};
+ghost use Rattle.fuxi_terms.specs.Rows.{IsRow, AreRowChanges, patched_row, row_total};
 ghost use Rattle.fuxi_terms.specs.Vectors.{fits, plus, minus, times};
 ghost use Rattle.fuxi_terms.specs.Limits.{greatest_count};
 ghost use Rattle.party_ledgers.specs.Weighing.{TotalsAfter, total_moved};
@@ -69,7 +69,7 @@ pub(crate) fn total_after(
     changes: &[(RowKey, i64)],
 ) -> Result<Sum, LedgerFault>
     requires row { IsRow entries.now }
-    requires sorted { T (is_sorted row_cmp changes.now) }
+    requires changes { AreRowChanges changes.now }
     requires total { total.now.q ≡ row_total entries.now }
     ensures { TotalsAfter (patched_row entries.now changes.now) result }
 {

@@ -4,11 +4,14 @@ use Rattle.std.specs.Int.RustNames.{FitsSigned}
 use Rattle.std.proofs.lemmas.Int.{to_z-of_z}
 use Rattle.std.proofs.lemmas.Result.{err_from_is_err_and}
 use Rattle.fuxi_terms.specs.declared.answers.LedgerFault.TheVariants.{TooGreat}
-use Rattle.party_ledgers.proofs.PatchedRow.{count_small, row_some, row_refused, row_too_long, row_more}
+use Rattle.party_ledgers.proofs.PatchedRow.{count_small, is_changed_key, row_some, row_refused, row_too_long, row_more}
 use Rattle.party_ledgers.proofs.row.test_changes.Goals as goal
 
-pub moved_within-requires : goal.moved_within-requires
-moved_within-requires c = omega (arith, c.count_of-kept.ensures, count_small c.args.entries.now c.loop-key-item.result.0 c.requires.row.counts)
+pub moved_within-requires-clause-key : goal.moved_within-requires-clause-key
+moved_within-requires-clause-key c = is_changed_key c.args.changes.now c.requires.changes c.loop-key.key-index c.loop-key-item.result c.loop-key-item.is c.loop-key-test.true
+
+pub moved_within-requires-clause-kept : goal.moved_within-requires-clause-kept
+moved_within-requires-clause-kept c = omega (arith, c.count_of-kept.ensures, count_small c.args.entries.now c.loop-key-item.result.0 c.requires.row.counts)
 
 pub returns-in_err-n-clause-err : goal.returns-in_err-n-clause-err
 returns-in_err-n-clause-err c =
