@@ -1,7 +1,7 @@
 -- What stands before the first newline is the first line.
-use Rattle.std.proofs.Common.{◌≡◌, ◌≢◌, ℕ, zero, suc, ◌+◌, ◌-◌, ◌<◌, ◌≤◌, true, false, cond, nat_eq, List, [], ◌∷◌, ◌++◌, length, get_or, take, drop, slice_range, refl, ap, sym, subst, ◌∙◌, arith, append_assoc, take-append-drop, length-append, length-take}
+use Rattle.std.proofs.Common.{◌≡◌, ◌≢◌, ℕ, zero, suc, ◌+◌, ◌-◌, ◌<◌, ◌≤◌, true, false, cond, nat_eq, List, [], ◌∷◌, ◌++◌, length, get_or, take, drop, slice_range, refl, ap, sym, subst, ◌∙◌, arith, append_assoc, take-append-drop, length-append}
 use Rattle.std.proofs.lemmas.Bool.Decides.{nat_tests}
-use Rattle.std.proofs.lemmas.List.{drop_more, drop-drop, drop-take}
+use Rattle.std.proofs.lemmas.List.{drop_more, drop-drop, drop-take, take-take}
 use Rattle.std.proofs.lemmas.List.Elements.{All-head, All-tail, All-append}
 use Rattle.fuxi_io.specs.Lines.{InputLine, lines_of, onto_first, FirstLonger}
 use Rattle.fuxi_io.specs.Pieces.{NoNewline}
@@ -36,33 +36,50 @@ FirstLonger-prefix (suc n) (x ∷ xs) ys none more =
     subst (FirstLonger (suc n)) (sym (goes_on x (xs ++ ys) (All-head (λ b. b ≢ 10) x xs none)))
     (longer_suc x n (lines_of (xs ++ ys)) (FirstLonger-prefix n xs ys (All-tail (λ b. b ≢ 10) x xs none) (omega (arith, more))))
 
--- the same where a part of the bytes is added to a line
-pub FirstLonger-append : (n i : ℕ) (line bytes more : List ℕ) → NoNewline line → NoNewline (take i bytes) → n < length line + length (take i bytes) → FirstLonger n (lines_of (line ++ bytes ++ more))
-FirstLonger-append n i line bytes more plain none long =
-    let split : line ++ bytes ++ more ≡ (line ++ take i bytes) ++ (drop i bytes ++ more) =
-    ap (λ l. line ++ l ++ more) (sym (take-append-drop i bytes)) ∙ ap (λ l. l ++ more) (sym (append_assoc line (take i bytes) (drop i bytes))) ∙ append_assoc (line ++ take i bytes) (drop i bytes) more in
-    subst (λ l. FirstLonger n (lines_of l)) (sym split)
-    (FirstLonger-prefix n (line ++ take i bytes) (drop i bytes ++ more) (All-append (λ b. b ≢ 10) line (take i bytes) plain none) (omega (arith, long, length-append line (take i bytes))))
-
-pub cut_at : (i : ℕ) (line bytes : List ℕ) → i < length bytes → get_or bytes i 0 ≡ 10 → line ++ bytes ≡ line ++ take i bytes ++ 10 ∷ drop (i + 1) bytes
-cut_at i line bytes lt is =
-    ap (λ l. line ++ l) (sym (take-append-drop i bytes)) ∙ sym (append_assoc line (take i bytes) (drop i bytes))
-    ∙ ap (λ l. line ++ take i bytes ++ l) (drop_more bytes i 0 lt ∙ ap (λ b. b ∷ drop (i + 1) bytes) is)
+pub FirstLonger-whole : (n : ℕ) (line bytes more : List ℕ) → NoNewline line → NoNewline bytes → n < length line + length bytes → FirstLonger n (lines_of (line ++ bytes ++ more))
+FirstLonger-whole n line bytes more plain none long =
+    FirstLonger-prefix n (line ++ bytes) more (All-append (λ b. b ≢ 10) line bytes plain none) (omega (arith, long, length-append line bytes))
 
 slice_after : (xs : List ℕ) (from to m : ℕ) → from + m ≤ to → drop m (slice_range xs from to) ≡ slice_range xs (from + m) to
 slice_after xs from to m le =
     let split : to - from ≡ m + (to - (from + m)) = omega (arith, le) in
     ap (λ k. drop m (take k (drop from xs))) split ∙ drop-take m (to - (from + m)) (drop from xs) ∙ ap (λ l. take (to - (from + m)) l) (drop-drop m from xs)
 
--- a part of some bytes up to a newline goes behind a line, and the part behind the newline stays
-pub moved_line : (seen bytes line made part : List ℕ) (from to n : ℕ) → seen ≡ bytes → slice_range bytes from to ≡ part → n < length (slice_range seen from to) → get_or (slice_range seen from to) n 0 ≡ 10 → made ≡ line ++ take n (slice_range seen from to) → line ++ part ≡ made ++ 10 ∷ slice_range bytes (from + (n + 1)) to
-moved_line seen bytes line made part from to n same view lt is made_of =
-    let old = slice_range seen from to in
-    let fits : from + (n + 1) ≤ to = omega (arith, lt, length-take (to - from) (drop from seen)) in
-    let rest : drop (n + 1) old ≡ slice_range bytes (from + (n + 1)) to = slice_after seen from to (n + 1) fits ∙ ap (λ l. slice_range l (from + (n + 1)) to) same in
-    ap (λ l. line ++ l) (sym view ∙ ap (λ l. slice_range l from to) (sym same)) ∙ cut_at n line old lt is ∙ ap (λ l. l ++ 10 ∷ drop (n + 1) old) (sym made_of)
-    ∙ ap (λ l. made ++ 10 ∷ l) rest
+slice_split : (bytes : List ℕ) (from end to : ℕ) → from ≤ end → end ≤ to → slice_range bytes from to ≡ slice_range bytes from end ++ slice_range bytes end to
+slice_split bytes from end to begun ended =
+    let m = end - from in
+    let same : from + m ≡ end = omega (arith, begun) in
+    sym (take-append-drop m (slice_range bytes from to)) ∙ ap (λ l. l ++ drop m (slice_range bytes from to)) (take-take m (to - from) (drop from bytes) (omega (arith, begun, ended)))
+    ∙ ap (λ l. slice_range bytes from end ++ l) (slice_after bytes from to m (omega (arith, begun, ended)) ∙ ap (λ k. slice_range bytes k to) same)
 
-pub FirstLonger-whole : (n : ℕ) (line bytes more : List ℕ) → NoNewline line → NoNewline bytes → n < length line + length bytes → FirstLonger n (lines_of (line ++ bytes ++ more))
-FirstLonger-whole n line bytes more plain none long =
-    FirstLonger-prefix n (line ++ bytes) more (All-append (λ b. b ≢ 10) line bytes plain none) (omega (arith, long, length-append line bytes))
+-- some bytes between two places, cut at a newline
+cut_line : (bytes : List ℕ) (from end to : ℕ) → from ≤ end → end < to → to ≤ length bytes → get_or bytes end 0 ≡ 10 → slice_range bytes from to ≡ slice_range bytes from end ++ 10 ∷ slice_range bytes (end + 1) to
+cut_line bytes from end to begun more inside is =
+    let step : to - end ≡ suc (to - (end + 1)) = omega (arith, more) in
+    slice_split bytes from end to begun (omega (arith, more))
+    ∙ ap (λ l. slice_range bytes from end ++ take (to - end) l) (drop_more bytes end 0 (omega (arith, more, inside)) ∙ ap (λ b. b ∷ drop (end + 1) bytes) is)
+    ∙ ap (λ k. slice_range bytes from end ++ take k (10 ∷ drop (end + 1) bytes)) step
+
+newline_in : (xs ys : List ℕ) → NoNewline (xs ++ 10 ∷ ys) → ⊥
+newline_in [] ys none = All-head (λ b. b ≢ 10) 10 ys none refl
+newline_in (x ∷ xs) ys none = newline_in xs ys (All-tail (λ b. b ≢ 10) x (xs ++ 10 ∷ ys) none)
+
+pub has_newline : (bytes : List ℕ) (from end to : ℕ) → from ≤ end → end < to → to ≤ length bytes → get_or bytes end 0 ≡ 10 → NoNewline (slice_range bytes from to) → ⊥
+has_newline bytes from end to begun more inside is none =
+    newline_in (slice_range bytes from end) (slice_range bytes (end + 1) to) (subst NoNewline (cut_line bytes from end to begun more inside is) none)
+
+-- the bytes up to a newline go behind a line, and those behind the newline stay
+pub moved_line : (seen bytes line made part : List ℕ) (from end to : ℕ) → seen ≡ bytes → slice_range bytes from to ≡ part → from ≤ end → end < to → to ≤ length bytes → get_or bytes end 0 ≡ 10 → made ≡ line ++ slice_range seen from end → line ++ part ≡ made ++ 10 ∷ slice_range bytes (end + 1) to
+moved_line seen bytes line made part from end to same view begun more inside is made_of =
+    let rest = 10 ∷ slice_range bytes (end + 1) to in
+    ap (λ l. line ++ l) (sym view ∙ cut_line bytes from end to begun more inside is) ∙ sym (append_assoc line (slice_range bytes from end) rest)
+    ∙ ap (λ l. (line ++ slice_range l from end) ++ rest) (sym same) ∙ ap (λ l. l ++ rest) (sym made_of)
+
+-- the same of a line that gets too long by them
+pub FirstLonger-slice : (n : ℕ) (line bytes more : List ℕ) (from end to : ℕ) → from ≤ end → end ≤ to → NoNewline line → NoNewline (slice_range bytes from end) → n < length line + length (slice_range bytes from end) → FirstLonger n (lines_of (line ++ slice_range bytes from to ++ more))
+FirstLonger-slice n line bytes more from end to begun ended plain none long =
+    let part = slice_range bytes from end in
+    let rest = slice_range bytes end to in
+    let split : line ++ slice_range bytes from to ++ more ≡ (line ++ part) ++ (rest ++ more) =
+    ap (λ l. line ++ l ++ more) (slice_split bytes from end to begun ended) ∙ ap (λ l. l ++ more) (sym (append_assoc line part rest)) ∙ append_assoc (line ++ part) rest more in
+    subst (λ l. FirstLonger n (lines_of l)) (sym split) (FirstLonger-whole n line part (rest ++ more) plain none long)

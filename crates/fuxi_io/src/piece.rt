@@ -2,7 +2,7 @@ ghost use Rattle.std.specs.Prelude.{◌≡◌, ◌≢◌, ℕ, ◌+◌, ◌<◌,
 ghost use Rattle.std.specs.Io.KnownBytes.{Consumes, IsAtEnd, Keeps};
 ghost use Rattle.fuxi_io.specs.Causes.{Rose};
 ghost use Rattle.fuxi_io.specs.Lines.{FirstLonger, lines_of};
-ghost use Rattle.fuxi_io.specs.Pieces.{Moved, NoNewline};
+ghost use Rattle.fuxi_io.specs.Pieces.{EndsLine, Moved, NoNewline};
 ghost use Rattle.fuxi_io.specs.Reading.{read_ahead};
 ghost use Rattle.fuxi_terms.specs.Limits.{most_line_bytes};
 
@@ -10,36 +10,47 @@ use crate::lines::LineStop;
 use crate::outside::{Failed, Source};
 use fuxi_terms::OutOfMemory;
 use fuxi_terms::limits::MOST_LINE_BYTES;
+use memchr::memchr;
 use std::alloc::Global;
 use std::marker::Model;
 
 // How many bytes are asked for in one read.
 const PIECE_BYTES: usize = 16384;
 
-// What was read from a source and not yet given to a line: the bytes between the two places.
+// What was read from a source and not yet given to a line: the bytes between two places. It knows where the
+// first newline stands, so that each byte is looked at once.
 #[derive(Drop)]
 pub struct Piece {
     bytes: Vec<u8>,
     from: usize,
+    // Where the first newline stands, and `to` where there is none.
+    end: usize,
     to: usize,
 }
 
 impl Model for Piece {
-    ghost use Rattle.std.specs.Prelude.{ℕ, List, ◌≤◌, ◌≡◌, slice_range, vec_len};
+    ghost use Rattle.std.specs.Prelude.{ℕ, List, ◌≤◌, ◌≡◌, length, slice_range};
+    ghost use Rattle.fuxi_io.specs.Pieces.{EndsLine};
 
     ghost Value = { List ℕ };
 
     ghost view = { λ p. slice_range p.bytes.items p.from p.to };
 
-    ghost invariant = { λ p. (p.from ≤ p.to) × (p.to ≤ vec_len p.bytes) × (vec_len p.bytes ≡ 16384) };
+    ghost invariant = { λ p. (p.from ≤ p.end) × (p.end ≤ p.to) × (p.to ≤ length p.bytes.items) × (length p.bytes.items ≡ 16384) × EndsLine p.bytes.items p.from p.to p.end };
 }
 
-// Where the first newline stands.
-fn newline(bytes: &[u8]) -> Option<usize>
-    ensures found { IfSome result (λ i. (i < length bytes.now) × (slice_index bytes.now i ≡ 10) × NoNewline (take i bytes.now)) }
-    ensures none { IfNone result (NoNewline bytes.now) }
+// Where the first newline between two places stands, and the second of them where there is none.
+fn line_end(bytes: &[u8], from: usize, to: usize) -> usize
+    requires ordered { from ≤ to }
+    requires inside { to ≤ length bytes.now }
+    ensures from { from ≤ result }
+    ensures to { result ≤ to }
+    ensures ends { EndsLine bytes.now from to result }
 {
-    bytes.iter().position(|byte| *byte == b'\n')
+    match memchr(b'\n', &bytes[from..to]) {
+        Some(n) => from + n,
+        None => to,
+    }
 }
 
 // The line with these bytes behind it, where it is not too long.
@@ -70,6 +81,7 @@ impl Piece {
         Ok(Piece {
             bytes,
             from: 0,
+            end: 0,
             to: 0,
         })
     }
@@ -84,7 +96,7 @@ impl Piece {
     pub fn has_newline(&self) -> bool
         ensures { IsTrue result → NoNewline self.now → ⊥ }
     {
-        newline(&self.bytes[self.from..self.to]).is_some()
+        self.end != self.to
     }
 
     // Reads the next piece, which is empty at the end alone.
@@ -103,6 +115,7 @@ impl Piece {
             return Err(LineStop::ReadFault);
         };
         self.from = 0;
+        self.end = line_end(&self.bytes, 0, n);
         self.to = n;
         Ok(())
     }
@@ -122,18 +135,13 @@ impl Piece {
         ensures long { (more : List ℕ) → OnErr result (FirstLonger most_line_bytes (lines_of (line.old.items ++ self.old ++ more))) }
         ensures stop { IfErr result (λ stop. stop ≡ LineStop.LineTooLong) }
     {
-        let bytes = &self.bytes[self.from..self.to];
-        match newline(bytes) {
-            Some(n) => {
-                append(line, &bytes[..n])?;
-                self.from += n + 1;
-                Ok(true)
-            }
-            None => {
-                append(line, bytes)?;
-                self.from = self.to;
-                Ok(false)
-            }
+        append(line, &self.bytes[self.from..self.end])?;
+        if self.end == self.to {
+            self.from = self.to;
+            return Ok(false);
         }
+        self.from = self.end + 1;
+        self.end = line_end(&self.bytes, self.from, self.to);
+        Ok(true)
     }
 }
