@@ -362,8 +362,7 @@ fn put_sent(line: &mut Tail, from: &Party, to: &Party, kind: Kind, inc: u64, seq
     ensures short { length line.new ≤ length line.old + 160 }
 {
     put_place(line, inc, seq);
-    line.put_word(kind_name(kind));
-    line.put(b' ');
+    put_kind(line, kind);
     put_party(line, to);
     put_party(line, from);
 }
@@ -374,38 +373,40 @@ fn put_heard(line: &mut Tail, fresh: bool, what: &What)
     ensures is { line.new ≡ blanked (cond fresh (codes "new" ∷ what_word what.now ∷ []) (what_word what.now ∷ [])) ++ line.old }
     ensures short { length line.new ≤ length line.old + 20 }
 {
-    line.put_word(what_name(what));
-    line.put(b' ');
+    put_what(line, what);
     if fresh {
         line.put_word(b" new");
     }
 }
 
-fn kind_name(kind: Kind) -> &'static [u8]
-    ensures name { result.now ≡ kind_word (as_kind kind) }
-    ensures short { length result.now ≤ 5 }
+// A word whose length is known is put without a call, so each has a line.
+fn put_kind(line: &mut Tail, kind: Kind)
+    requires room { length line.old ≤ 100 }
+    ensures is { line.new ≡ blanked (kind_word (as_kind kind) ∷ []) ++ line.old }
+    ensures short { length line.new ≤ length line.old + 6 }
 {
     match kind {
-        Kind::Ack => b"ack",
-        Kind::Delta => b"delta",
-        Kind::Full => b"full",
+        Kind::Ack => line.put_word(b" ack"),
+        Kind::Delta => line.put_word(b" delta"),
+        Kind::Full => line.put_word(b" full"),
     }
 }
 
-fn what_name(what: &What) -> &'static [u8]
-    ensures name { result.now ≡ what_word what.now }
-    ensures short { length result.now ≤ 8 }
+fn put_what(line: &mut Tail, what: &What)
+    requires room { length line.old ≤ 40 }
+    ensures is { line.new ≡ blanked (what_word what.now ∷ []) ++ line.old }
+    ensures short { length line.new ≤ length line.old + 9 }
 {
     match what {
-        What::Stranger => b"stranger",
-        What::Stale => b"stale",
-        What::Ack => b"ack",
-        What::NotMine => b"not-mine",
-        What::Old => b"old",
-        What::Gap => b"gap",
-        What::Taken => b"taken",
-        What::Ledger(_) => b"ledger",
-        What::Exceeds { .. } => b"exceeds",
+        What::Stranger => line.put_word(b" stranger"),
+        What::Stale => line.put_word(b" stale"),
+        What::Ack => line.put_word(b" ack"),
+        What::NotMine => line.put_word(b" not-mine"),
+        What::Old => line.put_word(b" old"),
+        What::Gap => line.put_word(b" gap"),
+        What::Taken => line.put_word(b" taken"),
+        What::Ledger(_) => line.put_word(b" ledger"),
+        What::Exceeds { .. } => line.put_word(b" exceeds"),
     }
 }
 

@@ -7,6 +7,20 @@ use std::marker::Model;
 // No line but those of an event and of a frame is longer.
 const MOST_BYTES: usize = 256;
 
+// The two digits of each number below 100, one behind another.
+static PAIRS: [u8; 200] =
+    *b"00010203040506070809101112131415161718192021222324252627282930313233343536373839404142434445464748495051525354555657585960616263646566676869707172737475767778798081828384858687888990919293949596979899";
+
+// The two digits of a number, looked up where two divisions would take twice as long.
+fn pair_of(number: u8) -> (u8, u8)
+    requires { number < 100 }
+    ensures tens { result.0 ≡ 48 + number / 10 }
+    ensures ones { result.1 ≡ 48 + number % 10 }
+{
+    let at = 2 * number as usize;
+    (PAIRS[at], PAIRS[at + 1])
+}
+
 /// The end of a line, in front of which more is put. It takes no memory.
 #[derive(Drop)]
 pub(crate) struct Tail {
@@ -71,9 +85,10 @@ impl Tail {
         ensures is { self.new ≡ (48 + number / 10) ∷ (48 + number % 10) ∷ self.old }
         ensures long { length self.new ≡ length self.old + 2 }
     {
+        let (tens, ones) = pair_of(number);
         let from = self.from - 2;
-        self.bytes[from] = b'0' + number / 10;
-        self.bytes[from + 1] = b'0' + number % 10;
+        self.bytes[from] = tens;
+        self.bytes[from + 1] = ones;
         self.from = from;
     }
 
