@@ -138,7 +138,36 @@ fn plan_within<P: Asking>(
     )
 }
 
-// The plan of a unit that waits. The rooms for units of its kind are made once one of them was tried in vain.
+// The plan of the second unit of a kind. The rooms are made for it, and kept for those behind it.
+fn plan_with_rooms<P: Asking>(
+    alloc: Global,
+    table: &GrantTable,
+    placer: &P,
+    groups: &[GroupUse],
+    shelves: &[Shelf<'_>],
+    e: &Entry,
+    need: &Need,
+    kinds: &mut Vec<Rooms>,
+    scratch: &mut Scratch,
+) -> Result<Option<Plan>, OutOfMemory>
+    requires entry { IsEntry table.now e.now }
+    requires groups { AreGroups table.now groups.now }
+    requires shelves { AreShelves table.now groups.now shelves.now }
+    requires wanted { IsWanted table.now e.now.app.0 e.now.unit.0 need.now }
+    requires kinds { AllByRecursion (AreRooms table.now) kinds.old.items }
+    ensures found { IfOk result (IsFound table.now (P.usable placer.now) (pairs_on table.now (P.usable placer.now) (pair_of e.now))) }
+    ensures kinds { OnOk result (AllByRecursion (AreRooms table.now) kinds.new.items) }
+{
+    let rooms = rooms_of(alloc, table, groups, shelves, need)?;
+    let found = plan_within(
+        alloc, table, placer, groups, shelves, &rooms, e, need, scratch,
+    )?;
+    kinds.push(rooms)?;
+    Ok(found)
+}
+
+// The plan of a unit that waits. The rooms for units of its kind are made once another one of its group was tried
+// in vain.
 fn unit_plan<P: Asking>(
     alloc: Global,
     table: &GrantTable,
@@ -146,6 +175,7 @@ fn unit_plan<P: Asking>(
     groups: &[GroupUse],
     shelves: &[Shelf<'_>],
     e: &Entry,
+    tried: &mut [bool; 32],
     kinds: &mut Vec<Rooms>,
     scratch: &mut Scratch,
 ) -> Result<Option<Plan>, OutOfMemory>
@@ -166,13 +196,15 @@ fn unit_plan<P: Asking>(
             alloc, table, placer, groups, shelves, &kinds[at], e, &need, scratch,
         );
     }
-    let found = first_machine(
-        alloc, table, placer, groups, shelves, None, e, &need, scratch,
-    )?;
-    if found.is_none() {
-        kinds.push(rooms_of(alloc, table, groups, shelves, &need)?)?;
+    if tried[e.group] {
+        return plan_with_rooms(
+            alloc, table, placer, groups, shelves, e, &need, kinds, scratch,
+        );
     }
-    Ok(found)
+    tried[e.group] = true;
+    first_machine(
+        alloc, table, placer, groups, shelves, None, e, &need, scratch,
+    )
 }
 
 // The plan of the first unit of a priority that has victims.
@@ -192,12 +224,13 @@ fn first_unit<P: Asking>(
     ensures { IfOk result (IsFound table.now (P.usable placer.now) (pairs_at table.now (P.usable placer.now) priority (map pair_of waiting.now))) }
 {
     let mut kinds = Vec::new(alloc);
+    let mut tried = [false; 32];
     for e in waiting {
         if e.priority != priority {
             continue;
         }
         match unit_plan(
-            alloc, table, placer, groups, shelves, e, &mut kinds, scratch,
+            alloc, table, placer, groups, shelves, e, &mut tried, &mut kinds, scratch,
         )? {
             Some(plan) => return Ok(Some(plan)),
             None => {}

@@ -147,7 +147,7 @@ pub(crate) fn listing_of(
     let mut starts = Vec::with_capacity(alloc, machines as usize + 1)?;
     starts.push(0)?;
     // Most units hold on a few machines. Where they hold on more it grows.
-    let mut entries = Vec::with_capacity(alloc, holders.len() * 4)?;
+    let mut entries = Vec::with_capacity(alloc, holders.len() * 8)?;
     for machine in 0..machines {
         list_machine(&mut entries, holders, &counts, machine)?;
         starts.push(entries.len())?;
