@@ -35,9 +35,11 @@ use Rattle.preempt.proofs.UnitSteps.{got}
 pub record AreLeft (groups : List GroupUse) (shelf : Shelf) (n : Need) (room : List ℕ) : Type 0 where
   pub lower : List ℕ
   pub all : List ℕ
+  pub used : List ℕ
   pub lower_are : (i : ℕ) → i < 8 → slice_index lower i ≡ lower_in n i shelf.entries.now
   pub all_are : (i : ℕ) → i < 8 → slice_index all i ≡ slice_index lower i + spared_in n i shelf.spared.items
-  pub room_are : (i : ℕ) → i < n.resources → slice_index room i ≡ min ((slice_index shelf.has i + slice_index all i) - slice_index shelf.used i)
+  pub used_are : (i : ℕ) → i < 8 → slice_index used i ≡ slice_index shelf.has i - slice_index shelf.free i
+  pub room_are : (i : ℕ) → i < n.resources → slice_index room i ≡ min ((slice_index shelf.has i + slice_index all i) - slice_index used i)
       ((slice_index (get_or groups n.group no_group).limit i + slice_index lower i) - slice_index (get_or groups n.group no_group).used i)
 
 pub beyond_none : (t : TableRecord) (groups : List GroupUse) (m : ℕ) (shelf : Shelf) (n : Need) (room : List ℕ) (a u i : ℕ)
@@ -54,7 +56,7 @@ beyond_none t groups m shelf n room a u i are is left small group priority guara
 
     -- what the machine has left
     fits : ℕ
-    fits = (slice_index shelf.has i + slice_index left.all i) - slice_index shelf.used i
+    fits = (slice_index shelf.has i + slice_index left.all i) - slice_index left.used i
 
     entries : Table
     entries = map (written m) shelf.entries.now
@@ -78,18 +80,18 @@ beyond_none t groups m shelf n room a u i are is left small group priority guara
     by : (b : Bool) → nat_lt fits size ≡ b → is_enough_in (board_of t) t.entries s all ≡ false
     by true e =
         let less : fits < size = grind (arith, nat_tests, e) in
-        let f : fits ≡ (slice_index shelf.has i + slice_index left.all i) - slice_index shelf.used i = refl in
+        let f : fits ≡ (slice_index shelf.has i + slice_index left.all i) - slice_index left.used i = refl in
         let x = left.all_are i few in
         let w = sums.whole in
         let z : set_by (size_at (as_known t.jobs)) i (singles []) ≡ 0 = refl in
         let h = is.has i lt in
-        let v = is.used i lt in
+        let v : slice_index left.used i ≡ total_at (as_known t.jobs) m i t.entries = (let u = left.used_are i few in let y = is.free i lt in omega (arith, u, y, h)) in
         let short : has_at t.cluster m i + set_by (size_at (as_known t.jobs)) i all < total_at (as_known t.jobs) m i t.entries + size = omega (arith, less, f, x, w, z, lower, spared, h, v) in
         not_fit (board_of t) t.entries s all i lt short
     by false e =
         let le : size ≤ fits = grind (arith, nat_tests, e) in
         let r = left.room_are i inside in
-        let f : fits ≡ (slice_index shelf.has i + slice_index left.all i) - slice_index shelf.used i = refl in
+        let f : fits ≡ (slice_index shelf.has i + slice_index left.all i) - slice_index left.used i = refl in
         let g = group_of (as_known t.jobs) a in
         let w = sums.own in
         let z : part_by (group_of (as_known t.jobs)) (size_at (as_known t.jobs)) g i (singles []) ≡ 0 = refl in

@@ -1,5 +1,5 @@
 -- What a unit that waits needs is what the definitions say.
-use Rattle.std.proofs.Common.{◌≡◌, ℕ, zero, suc, ◌+◌, ◌<◌, ◌≤◌, Bool, true, false, cond, not, nat_eq, nat_lt, List, [], ◌∷◌, length, get_or, drop, Some, sym, ◌∙◌, ap, arith}
+use Rattle.std.proofs.Common.{◌-◌, ◌≡◌, ℕ, zero, suc, ◌+◌, ◌<◌, ◌≤◌, Bool, true, false, cond, not, nat_eq, nat_lt, List, [], ◌∷◌, length, get_or, drop, Some, sym, ◌∙◌, ap, arith}
 use Rattle.std.specs.Prelude.{◌&&◌, ◌||◌, IfOk, Result, Ok, Err, slice_get, slice_index}
 use Rattle.fuxi_terms.specs.Cluster.{JobRecord, is_narrow, quota_at, in_each}
 use Rattle.fuxi_terms.specs.Jobs.{job_of, unit_count, size_at, group_of}
@@ -55,7 +55,7 @@ module _ (t : TableRecord) (e : Entry) (h : IsEntry t e) where
 
   pub need_on : (n on : Need) (groups : List GroupUse) (m : ℕ) (s : Shelf) → IsWanted t e.app.0 e.unit.0 n → IsShelf t groups m s → t.cluster.resources ≤ 8
       → on.resources ≡ n.resources → on.group ≡ n.group → on.priority ≡ n.priority → on.guaranteed ≡ n.guaranteed → on.has ≡ s.has → on.limit ≡ n.limit → on.allowed ≡ n.allowed
-      → ((i : ℕ) → i < 8 → slice_index on.fits i ≡ slice_index s.used i + slice_index e.size i) → IsNeed t (spot e.app.0 e.unit.0 m) on
+      → ((i : ℕ) → i < 8 → slice_index on.fits i ≡ slice_index s.has i - slice_index s.free i + slice_index e.size i) → IsNeed t (spot e.app.0 e.unit.0 m) on
   need_on n on groups m s w is few resources group priority guaranteed has limit allowed fits = record {
     resources = resources ∙ w.resources;
     narrow = w.narrow;
@@ -63,7 +63,7 @@ module _ (t : TableRecord) (e : Entry) (h : IsEntry t e) where
     priority = priority ∙ w.priority;
     guaranteed = guaranteed ∙ w.guaranteed;
     has = λ i lt. ap (λ xs. get_or xs i 0) has ∙ is.has i lt;
-    fits = λ i lt. let f = fits i (omega (arith, lt, few)) in let x = is.used i lt in let y = size_is t e h i in omega (arith, f, x, y);
+    fits = λ i lt. let f = fits i (omega (arith, lt, few)) in let x = is.free i lt in let z = is.has i lt in let y = size_is t e h i in omega (arith, f, x, z, y);
     limit = λ i lt. ap (λ xs. get_or xs i 0) limit ∙ w.limit i lt;
     allowed = λ i lt. ap (λ xs. get_or xs i 0) allowed ∙ w.allowed i lt;
   }

@@ -94,7 +94,7 @@ pub record IsShelf (t : TableRecord) (groups : List GroupUse) (m : ℕ) (s : She
   pub spared : AreSpared t m s.entries.now s.spared.items
   pub few_spared : length s.spared.items ≤ 1000000
   pub has : (i : ℕ) → i < t.cluster.resources → slice_index s.has i ≡ has_at t.cluster m i
-  pub used : (i : ℕ) → i < t.cluster.resources → slice_index s.used i ≡ total_at (as_known t.jobs) m i t.entries
+  pub free : (i : ℕ) → i < t.cluster.resources → slice_index s.free i + total_at (as_known t.jobs) m i t.entries ≡ has_at t.cluster m i
   pub low : AllByRecursion (IsLow s.lowest) s.entries.now
   pub loose_are : AllByRecursion (IsLoose t.cluster.resources groups s.loose) s.entries.now
 

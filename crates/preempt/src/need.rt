@@ -16,7 +16,7 @@ ghost use Rattle.preempt.specs.Shelves.{IsShelf, IsWanted};
 use crate::entry::{Entry, GroupUse, Need};
 use crate::number::{is_narrow, reach};
 use crate::plan::Victim;
-use crate::shelf::{Shelf, may_take_some};
+use crate::shelf::{Shelf, used_of};
 use crate::victims::{Scratch, victims_on};
 use crate::walk::entry_of;
 use fuxi_terms::OutOfMemory;
@@ -110,7 +110,7 @@ fn on_shelf(need: &Need, e: &Entry, shelf: &Shelf<'_>) -> Need
 {
     Need {
         has: shelf.has,
-        fits: sum_of(&shelf.used, &e.size),
+        fits: sum_of(&used_of(&shelf.has, &shelf.free), &e.size),
         ..*need
     }
 }
@@ -133,9 +133,6 @@ pub(crate) fn victims_for(
         MatchOption found (victims_in (board_of t) t.entries (spot e.now.app.0 e.now.unit.0 m) ≡ None) (λ vs. victims_in (board_of t) t.entries (spot e.now.app.0 e.now.unit.0 m) ≡ Some (losers_of m vs.items))) }
     ensures takable { IfOk result (λ found. (t : TableRecord) (m : ℕ) → IsSound t → AreGroups t groups.now → IsEntry t e.now → IsWanted t e.now.app.0 e.now.unit.0 need.now → IsShelf t groups.now m shelf.now → IfSome found (λ vs. AreTakable t m vs.items)) }
 {
-    if !may_take_some(need, &shelf.lowest, shelf.loose) {
-        return Ok(None);
-    }
     let need = on_shelf(need, e, shelf);
     victims_on(alloc, shelf.entries, &need, groups, scratch)
 }

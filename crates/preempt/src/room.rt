@@ -10,7 +10,7 @@ ghost use Rattle.preempt.specs.MachineRooms.{AreRooms, IsFor, IsPlaceFor, IsRoom
 ghost use Rattle.preempt.specs.Shelves.{AreShelves, IsShelf};
 
 use crate::entry::{GroupUse, Need, Sums, lower_of, with_spared};
-use crate::shelf::{Shelf, may_take_some};
+use crate::shelf::{Shelf, may_take_some, used_of};
 use fuxi_terms::OutOfMemory;
 use grant_table::GrantTable;
 use std::alloc::Global;
@@ -62,7 +62,8 @@ fn left_of(has: u64, sum: u128, used: u64) -> u128
 // to a group, where so much of it is its own.
 fn left_on(
     resources: usize,
-    shelf: &Shelf<'_>,
+    has: &[u64; 8],
+    used: &[u64; 8],
     all: &[u128; 8],
     group: &GroupUse,
     own: &[u128; 8],
@@ -70,11 +71,11 @@ fn left_on(
     requires resources { resources ≤ 8 }
     requires all_small { (i : ℕ) → i < 8 → slice_index all.now i < 2 ^ 127 }
     requires own_small { (i : ℕ) → i < 8 → slice_index own.now i < 2 ^ 127 }
-    ensures { (i : ℕ) → i < resources → slice_index result i ≡ min ((slice_index shelf.now.has i + slice_index all.now i) - slice_index shelf.now.used i) ((slice_index group.now.limit i + slice_index own.now i) - slice_index group.now.used i) }
+    ensures { (i : ℕ) → i < resources → slice_index result i ≡ min ((slice_index has.now i + slice_index all.now i) - slice_index used.now i) ((slice_index group.now.limit i + slice_index own.now i) - slice_index group.now.used i) }
 {
     let mut q = [0; 8];
     for i in 0..resources {
-        let fits = left_of(shelf.has[i], all[i], shelf.used[i]);
+        let fits = left_of(has[i], all[i], used[i]);
         let allowed = left_of(group.limit[i], own[i], group.used[i]);
         q[i] = fits.min(allowed);
     }
@@ -97,8 +98,9 @@ fn room_on(shelf: &Shelf<'_>, need: &Need, groups: &[GroupUse]) -> Sums
     let lower = lower_of(shelf.entries, need);
     let all = with_spared(&lower, &shelf.spared, need);
     let group = &groups[need.group];
+    let used = used_of(&shelf.has, &shelf.free);
     Sums {
-        q: left_on(need.resources, shelf, &all, group, &lower),
+        q: left_on(need.resources, &shelf.has, &used, &all, group, &lower),
     }
 }
 

@@ -23,7 +23,7 @@ use crate::need::{need_of, victims_for, waiting_of};
 use crate::parts::Parts;
 use crate::plan::{Plan, Victims};
 use crate::room::{Rooms, is_within, place_for, rooms_of};
-use crate::shelf::{Shelf, groups_of, shelves_of};
+use crate::shelf::{Shelf, groups_of, may_take_some, shelves_of};
 use crate::victims::Scratch;
 use crate::walk::{by_priority, holders_of, listing_of};
 use fuxi_terms::OutOfMemory;
@@ -81,10 +81,13 @@ fn first_machine<P: Asking>(
         if is_beyond(rooms, need, &e.size, number) {
             continue;
         }
+        let shelf = &shelves[number as usize];
+        if !may_take_some(need, &shelf.lowest, shelf.loose) {
+            continue;
+        }
         if !accepts(table, placer, e, machine) {
             continue;
         }
-        let shelf = &shelves[number as usize];
         match victims_for(alloc, need, e, shelf, groups, scratch)? {
             Some(victims) => {
                 let pick = Pick {

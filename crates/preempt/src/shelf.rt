@@ -36,9 +36,9 @@ pub(crate) struct Shelf<'a> {
     /// By group, a priority that none of its grants here is below.
     pub(crate) lowest: [u8; 32],
     pub(crate) loose: Loose,
-    /// What the machine has, and what is granted on it.
+    /// What the machine has, and what of it is free.
     pub(crate) has: [u64; 8],
-    pub(crate) used: [u64; 8],
+    pub(crate) free: [u64; 8],
 }
 
 // Whether a group is among those that are loose.
@@ -188,8 +188,8 @@ pub(crate) fn groups_of(alloc: Global, table: &GrantTable) -> Result<Vec<GroupUs
     Ok(groups)
 }
 
-// What is used of what there is, where so much is free.
-fn used_of(has: &[u64; 8], free: &[u64; 8]) -> [u64; 8]
+/// What is used of what there is, where so much is free.
+pub(crate) fn used_of(has: &[u64; 8], free: &[u64; 8]) -> [u64; 8]
     ensures { (i : ℕ) → i < 8 → slice_index result i ≡ slice_index has.now i - slice_index free.now i }
 {
     let mut used = [0; 8];
@@ -219,6 +219,7 @@ fn shelf_of<'a, L: Ledger>(
     let cluster = table.cluster();
     let resources = cluster.resources() as usize;
     let has = cluster.machine(machine).has.q;
+    let left = free.q;
     let lowest = lowest_of(entries);
     let loose = loose_of(entries, resources, groups);
     let spared = spared_of(alloc, entries, loose, resources, groups, parts)?;
@@ -228,7 +229,7 @@ fn shelf_of<'a, L: Ledger>(
         lowest,
         loose,
         has,
-        used: used_of(&has, &free.q),
+        free: left,
     })
 }
 

@@ -1,4 +1,4 @@
-use Rattle.std.proofs.Common.{ℕ, sym, ◌∙◌}
+use Rattle.std.proofs.Common.{ℕ}
 use Rattle.std.specs.Prelude.{Option}
 use Rattle.std.specs.Global.{Vec}
 use Rattle.fuxi_terms.specs.Tables.{spot}
@@ -6,13 +6,9 @@ use Rattle.grant_table.specs.GrantTables.{TableRecord, IsSound}
 use Rattle.preempt.specs.declared.plan.Victim.{Victim}
 use Rattle.preempt.specs.Given.{AreGiven, AreGroups, IsEntry}
 use Rattle.preempt.specs.Shelves.{IsShelf, IsWanted}
-use Rattle.preempt.proofs.ShelvesLemmas.{none_to_take, wanted_like, resources_few}
+use Rattle.preempt.proofs.ShelvesLemmas.{resources_few}
 use Rattle.preempt.proofs.NeedsAsWritten.{if_ok}
 use Rattle.preempt.proofs.need.victims_for.Goals as goal
-
-pub returns-then-not-may_take_some-clause-found : goal.returns-then-not-may_take_some-clause-found
-returns-then-not-may_take_some-clause-found c = λ t m sound groups entry wanted shelf.
-    none_to_take t c.args.groups.now groups (resources_few t.cluster sound.valid) (spot c.args.e.now.app.0 c.args.e.now.unit.0 m) c.args.need.now c.args.shelf.now shelf (wanted_like t c.args.e.now.app.0 c.args.e.now.unit.0 m c.args.need.now wanted) (sym c.may_take_some.ensures ∙ c.if-not-may_take_some.true)
 
 -- what is given on the machine
 given : (c : goal.After-victims_on) (t : TableRecord) (m : ℕ) → IsSound t → AreGroups t c.args.groups.now → IsEntry t c.args.e.now → IsWanted t c.args.e.now.app.0 c.args.e.now.unit.0 c.args.need.now → IsShelf t c.args.groups.now m c.args.shelf.now

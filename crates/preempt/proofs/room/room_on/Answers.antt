@@ -14,8 +14,10 @@ returns c = λ t m are shelf resources. record {
       beyond_none t c.args.groups.now m c.args.shelf.now n c.left_on.result a u i are shelf (record {
         lower = c.lower_of-lower.result;
         all = c.with_spared-all.result;
+        used = c.used_of-used.result;
         lower_are = λ k k_lt. c.lower_of-lower.ensures.is k k_lt;
         all_are = λ k k_lt. c.with_spared-all.ensures.is k k_lt ∙ ap (λ es. slice_index c.lower_of-lower.result k + spared_in n k es) c.deref.ensures.value;
+        used_are = c.used_of-used.ensures;
         room_are = c.left_on.ensures;
       }) c.requires.own group priority guaranteed lt (omega (arith, lt, few, resources)) (omega (arith, lt, resources)) more;
 }

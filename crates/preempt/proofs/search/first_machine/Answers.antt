@@ -15,6 +15,7 @@ use Rattle.preempt.specs.Given.{board_of, pair_of, IsEntry}
 use Rattle.preempt.specs.Plans.{AreTakable, losers_of}
 use Rattle.preempt.proofs.CountedAsWritten.{at_index}
 use Rattle.preempt.proofs.MachineRoomsLemmas.{machine_beyond}
+use Rattle.preempt.proofs.ShelvesLemmas.{none_to_take, wanted_like, resources_few}
 use Rattle.preempt.proofs.Served.{shelf_at, passed_closed, passed_none, passed_without, found_here}
 use Rattle.preempt.proofs.search.first_machine.Goals as goal
 
@@ -43,6 +44,19 @@ loop-number-preserved-then-is_beyond g c =
     let there : n < length t.cluster.machines = let a = c.loop-number-test.true in let b = c.machines-number-end.ensures.number in omega (arith, a, b, same) in
     passed_none t (g.P.Asking.usable c.args.placer.now) (pair_of e) n
     (none_beyond t e c.requires.entry c.args.need.now c.requires.wanted c.args.rooms n there c.requires.rooms (c.is_beyond.ensures c.if-is_beyond.true))
+    c.loop-number.invariant
+
+pub loop-number-preserved-then-not-may_take_some : goal.loop-number-preserved-then-not-may_take_some
+loop-number-preserved-then-not-may_take_some g c =
+    let t = c.args.table.now in
+    let e = c.args.e.now in
+    let n = c.loop-number.number in
+    let same = ap (λ (x : ClusterRecord). length x.machines) c.cluster-cluster.ensures.cluster in
+    let lt : n < length c.args.shelves.now = (let a = c.loop-number-test.true in let b = c.machines-number-end.ensures.number in let l = c.requires.shelves.long in omega (arith, a, b, same, l)) in
+    let shelf = c.requires.shelves.each n c.index-shelves-number.result (shelf_at c.args.shelves.now n c.index-shelves-number.result lt c.index-shelves-number.is) in
+    passed_none t (g.P.Asking.usable c.args.placer.now) (pair_of e) n
+    (none_to_take t c.args.groups.now c.requires.groups (resources_few t.cluster c.cluster-cluster.ensures.sound.valid) (spot e.app.0 e.unit.0 n) c.args.need.now c.index-shelves-number.result shelf
+    (wanted_like t e.app.0 e.unit.0 n c.args.need.now c.requires.wanted) (sym c.may_take_some.ensures ∙ c.if-not-may_take_some.true))
     c.loop-number.invariant
 
 pub loop-number-preserved-then-not-accepts : goal.loop-number-preserved-then-not-accepts

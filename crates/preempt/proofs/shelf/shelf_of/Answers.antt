@@ -22,12 +22,11 @@ returns-clause-shelf g c =
       spared = c.in_ok-spared.ensures.spared t m c.requires.entries.each c.requires.groups count;
       few_spared = let l = c.in_ok-spared.ensures.few in let a = c.requires.entries.few in omega (arith, l, a);
       has = λ i lt. has i;
-      used = λ i lt.
-          let u = c.used_of.ensures i (omega (arith, lt, eight)) in
+      free = λ i lt.
           let h = has i in
           let f = sym (at_place-get_or c.free-free.result.q i) ∙ c.free-free.ensures.free i in
           let w = c.free-free.ensures.fits i in
-          omega (arith, u, h, f, w);
+          omega (arith, h, f, w);
       low = c.lowest_of-lowest.ensures;
       loose_are = subst (λ n. AllByRecursion (IsLoose n c.args.groups.now c.loose_of-loose.result) c.args.entries.now) count c.loose_of-loose.ensures;
     }
