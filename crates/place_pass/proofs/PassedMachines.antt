@@ -1,18 +1,20 @@
 -- What a search knows of the machines that it passes.
-use Rattle.std.proofs.Common.{◌≡◌, ℕ, ◌<◌, ◌≤◌, Bool, true, false, not, nat_eq, List, Option, None, Some, get_or, refl, sym, ap, subst, inl, inr, arith}
-use Rattle.std.specs.Prelude.{◌&&◌, is_some, IsSomeAnd}
+use Rattle.std.proofs.Common.{◌≡◌, ℕ, ◌<◌, ◌≤◌, Bool, true, false, cond, not, nat_eq, nat_lt, List, [], Option, None, Some, get_or, refl, sym, ◌∙◌, ap, subst, inl, inr, ◌⊎◌, arith}
+use Rattle.std.specs.Prelude.{◌&&◌, is_some, IfSome, IsSomeAnd}
+use Rattle.std.specs.Option.{option_map}
 use Rattle.std.proofs.lemmas.Bool.{cases_lt}
+use Rattle.std.proofs.lemmas.Bool.Decides.{nat_tests}
 use Rattle.fuxi_terms.proofs.Booleans.{both_true, number_is}
-use Rattle.place_pass.specs.Bounds.{MarkRecord, rank_of, mark_at, key_of, bounded_mark, rank_at}
-use Rattle.place_pass.specs.PackedRanks.{packed, IsAbove}
+use Rattle.place_pass.specs.Bounds.{MarkRecord, rank_of, mark_at, key_of, zero_rank, bounded_mark, rank_at}
+use Rattle.place_pass.specs.PackedRanks.{packed, no_rank, IsSmall, IsAbove}
 use Rattle.place_pass.specs.SearchCounts.{is_unsettled_by}
 use Rattle.place_pass.specs.Scenes.{board_in, CanSearch, IsMarked, AreMarked, IsLeastOn, IsSettledBy, IsEarliest}
-use Rattle.place_pass.specs.Sights.{IsBehind, AreBehind, ArePassed, limit_in, found_rank, turn_in, is_first}
+use Rattle.place_pass.specs.Sights.{IsBehind, AreBehind, ArePassed, IsRaised, limit_in, found_rank, turn_in, is_first}
 use Rattle.place_pass.specs.declared.marks.Rank.{Rank}
 use Rattle.place_pass.specs.declared.search.Found.{Found}
 use Rattle.place_pass.specs.declared.search.Least.{Least}
 use Rattle.place_pass.specs.declared.search.Scene.{Scene}
-use Rattle.place_pass.proofs.PackedRanksLemmas.{not_first, never_above, above_less}
+use Rattle.place_pass.proofs.PackedRanksLemmas.{not_first, never_above, none_above, above_less}
 use Rattle.place_pass.proofs.ScenesLemmas.{key_seen}
 use Rattle.place_pass.proofs.SightsLemmas.{passed_over, bounded_by, least_passed, least_settled, settled_key}
 
@@ -37,6 +39,53 @@ module _ (s : Scene) (marks : List MarkRecord) (best : Option Found) (m : ℕ) (
     | true ↦ λ u. absurd (never_above (mark_at marks m) s.turns m few (subst (IsAbove (mark_at marks m) s.turns m) (ap limit_in none) (above u)))
     | false ↦ λ _. refl
   ] refl)
+
+-- ---- machines from one on, each of whose marks is raised to a rank
+pub at_one : (n m : ℕ) (P : ℕ → Type 0) → P n → (nat_eq n m ≡ false → P m) → P m
+at_one n m P here other = elim (nat_eq n m) as (λ b. nat_eq n m ≡ b → P m) [
+  | true ↦ λ e. subst P (number_is n m e) here
+  | false ↦ other
+] refl
+
+raised_then : (limit turns m : ℕ) (bound : Option (List ℕ)) (before after : MarkRecord) (P : Type 0) → IsRaised limit bound turns m before after
+    → (after ≡ bounded_mark bound turns before → P) → (after ≡ before → (is_some (key_of before turns) ≡ true → IsAbove before turns m limit) → P) → P
+raised_then limit turns m bound before after P h raised same = elim h.is as (λ _. P) [
+  | inl e ↦ raised e
+  | inr e ↦ same e.0 e.1
+]
+
+pub raised_or_same : (limit turns m : ℕ) (bound : Option (List ℕ)) (before after : MarkRecord) → IsRaised limit bound turns m before after → (after ≡ before) ⊎ (after ≡ bounded_mark bound turns before)
+raised_or_same limit turns m bound before after h = raised_then limit turns m bound before after ((after ≡ before) ⊎ (after ≡ bounded_mark bound turns before)) h (λ e. inr e) (λ e _. inl e)
+
+bounded_key : (bound : Option (List ℕ)) (turns : ℕ) (k : MarkRecord) → key_of (bounded_mark bound turns k) turns ≡ bound
+bounded_key bound turns k = let t : nat_lt turns turns ≡ false = grind (arith, nat_tests) in ap (λ b. cond b (Some zero_rank) bound) t
+
+-- with no rank a machine is settled then
+pub raised_settled : (limit turns m : ℕ) (before after : MarkRecord) → limit ≡ no_rank → m ≤ 256 → IsRaised limit None turns m before after → key_of after turns ≡ None
+raised_settled limit turns m before after all few h = raised_then limit turns m None before after (key_of after turns ≡ None) h
+    (λ e. ap (λ (k : MarkRecord). key_of k turns) e ∙ bounded_key None turns before)
+    (λ e above. ap (λ (k : MarkRecord). key_of k turns) e ∙ none_above before turns m limit all few above)
+
+-- with a rank that does not come before the limit its bound does not
+rank_above : (x : Rank) (k : MarkRecord) (turns from m limit : ℕ) → from ≤ m → IsSmall x → limit ≤ packed x from → IsAbove (bounded_mark (Some (rank_of x)) turns k) turns m limit
+rank_above x k turns from m limit le small later = record { key = x; is = bounded_key (Some (rank_of x)) turns k; small = small; above = omega (arith, le, later) }
+
+pub earliest_above : (earliest : Option Rank) (k : MarkRecord) (turns from m limit : ℕ) → from ≤ m → IfSome earliest (λ x. IsSmall x) → IsSomeAnd earliest (λ x. limit ≤ packed x from) → IsAbove (bounded_mark (option_map rank_of earliest) turns k) turns m limit
+earliest_above None k turns from m limit le small later = absurd later
+earliest_above (Some x) k turns from m limit le small later = rank_above x k turns from m limit le small later
+
+pub raised_above : (earliest : Option Rank) (limit turns from m : ℕ) (before after : MarkRecord) → from ≤ m → IfSome earliest (λ x. IsSmall x) → IsSomeAnd earliest (λ x. limit ≤ packed x from) → IsRaised limit (option_map rank_of earliest) turns m before after
+    → is_some (key_of after turns) ≡ true → IsAbove after turns m limit
+raised_above earliest limit turns from m before after le small later h some = raised_then limit turns m (option_map rank_of earliest) before after (IsAbove after turns m limit) h
+    (λ e. subst (λ (k : MarkRecord). IsAbove k turns m limit) (sym e) (earliest_above earliest before turns from m limit le small later))
+    (λ e above. subst (λ (k : MarkRecord). IsAbove k turns m limit) (sym e) (above (ap (λ (k : MarkRecord). is_some (key_of k turns)) (sym e) ∙ some)))
+
+-- there is a best then
+pub later_some : (earliest : Option Rank) (best : Option Found) (from : ℕ) → from ≤ 256 → IfSome earliest (λ x. IsSmall x) → IsSomeAnd earliest (λ x. limit_in best ≤ packed x from) → best ≡ None → ⊥
+later_some earliest best from few small later none =
+    let k : MarkRecord = record { bound = None; until = 0; groups = [] } in
+    never_above (bounded_mark (option_map rank_of earliest) 0 k) 0 from few
+    (subst (IsAbove (bounded_mark (option_map rank_of earliest) 0 k) 0 from) (ap limit_in none) (earliest_above earliest k 0 from from (limit_in best) (omega arith) small later))
 
 -- ---- machines that it passes: the one that it considered first, and those whose bound does not come before the best
 passed_one : (start m : ℕ) (P : ℕ → Type 0) → P start → (nat_eq m start ≡ false → P m) → P m
@@ -95,3 +144,7 @@ marked_raised s m x k earliest = record {
   bounded = λ opened. record { bounded = λ q has lt. bounded_by (board_in s) s.table.now.entries (Some (rank_of x)) k.groups (turn_in s.turn_of.now q) q m (earliest.bounded q m has) };
   later = λ opened a u turn here ge lt. absurd (omega (arith, ge, lt));
 }
+
+pub earliest_marked : (s : Scene) (m limit from : ℕ) (earliest : Option Rank) (k : MarkRecord) → IfSome earliest (λ x. IsEarliest s x) → IsSomeAnd earliest (λ x. limit ≤ packed x from) → IsMarked s m (bounded_mark (option_map rank_of earliest) s.turns k)
+earliest_marked s m limit from None k h later = absurd later
+earliest_marked s m limit from (Some x) k h later = marked_raised s m x k h

@@ -1,5 +1,5 @@
 -- What is found on machines: real pairs, that no other comes before.
-use Rattle.std.specs.Prelude.{◌≡◌, ℕ, ◌-◌, ◌<◌, ◌≤◌, Bool, true, false, cond, List, [], ◌∷◌, ◌++◌, length, slice_get, Option, Some, None, nat_eq, is_some}
+use Rattle.std.specs.Prelude.{◌≡◌, ℕ, ◌-◌, ◌<◌, ◌≤◌, ◌⊎◌, Bool, true, false, cond, List, [], ◌∷◌, ◌++◌, length, slice_get, Option, Some, None, nat_eq, is_some}
 use Rattle.std.specs.Option.{option_map}
 use Rattle.fuxi_terms.specs.Cluster.{has_at}
 use Rattle.fuxi_terms.specs.Keys.{Pair}
@@ -15,7 +15,7 @@ use Rattle.place_pass.specs.Cells.{Cell, Lifts, AvoidsStill}
 use Rattle.place_pass.specs.Placers.{AreAllowed}
 use Rattle.place_pass.specs.SearchCounts.{is_unsettled_by}
 use Rattle.place_pass.specs.PackedRanks.{packed, no_rank, IsAbove}
-use Rattle.place_pass.specs.Bounds.{MarkRecord, mark_at, key_of, reset_mark, lowered_mark, cleared_mark, rank_of, comes_before, IsBounded, is_bound, rank_at, rank_on, turn_at}
+use Rattle.place_pass.specs.Bounds.{MarkRecord, mark_at, key_of, bounded_mark, reset_mark, lowered_mark, cleared_mark, rank_of, comes_before, IsBounded, is_bound, rank_at, rank_on, turn_at}
 
 abbrev pub sight_rank : Option Sight → Option (List ℕ)
 sight_rank s = option_map (λ (x : Sight). rank_of x.rank) s
@@ -57,6 +57,10 @@ pub record IsLeast (b : Board) (es : Table) (f : Pair → ℕ) (line : List Pair
 -- what a mark says of the pairs that were looked at
 pub record AreBounded (b : Board) (es : Table) (f : Pair → ℕ) (line : List Pair) (k : MarkRecord) (m : ℕ) : Type 0 where
   pub bounded : (q : Pair) → has_pair q line ≡ true → f q < k.until → IsBounded b es k.bound k.groups (f q) q m
+
+-- a mark after a bound of all pairs was told: it has that bound, or it stays, and its own has a number that is not below a limit
+pub record IsRaised (limit : ℕ) (bound : Option (List ℕ)) (turns m : ℕ) (before after : MarkRecord) : Type 0 where
+  pub is : (after ≡ bounded_mark bound turns before) ⊎ ((after ≡ before) × (is_some (key_of before turns) ≡ true → IsAbove before turns m limit))
 
 -- a mark after a demand was told: it is reset where a unit no longer avoids the machine, and else lowered
 pub record IsAsked (es : List (Key × ℕ)) (xs : List Cell) (m : ℕ) (before after : MarkRecord) : Type 0 where

@@ -218,12 +218,12 @@ impl Model for Marks {
 }
 
 impl Marks {
-    ghost use Rattle.std.specs.Prelude.{◌≡◌, ℕ, ◌+◌, ◌<◌, ◌≤◌, true, false, is_some, nat_eq, cond, length, replicate, List, None, IfOk, IfSome};
+    ghost use Rattle.std.specs.Prelude.{◌≡◌, ℕ, ◌+◌, ◌<◌, ◌≤◌, ◌⊎◌, true, false, is_some, nat_eq, cond, length, replicate, List, None, IfOk, IfSome};
     ghost use Rattle.std.proofs.Common.{get_or};
     ghost use Rattle.place_pass.specs.Bounds.{rank_of, mark_of, mark_at, key_of, reset_mark, bounded_mark, limited_mark, lowered_mark, taken_mark, is_bound};
     ghost use Rattle.std.specs.Option.{option_map};
     ghost use Rattle.place_pass.specs.PackedRanks.{IsAbove};
-    ghost use Rattle.place_pass.specs.Sights.{found_rank};
+    ghost use Rattle.place_pass.specs.Sights.{found_rank, IsRaised};
     ghost use Rattle.place_pass.specs.Scenes.{CanSearch, IsMarked, IsSettledBy, IsFoundIn, IsLeastOn};
 
     /// Of machines that were not looked at.
@@ -336,6 +336,32 @@ impl Marks {
         mark.set_bound(bound, turns);
         let key = number_of_mark(mark, self.until, machine);
         self.keys.put(machine as usize, key);
+    }
+
+    // The same, where the machine's own bound may have a number below a limit.
+    fn bound_one(&mut self, machine: u32, limit: u128, bound: Option<Rank>, turns: u64)
+        requires { machine < length self.old }
+        ensures long { length self.new ≡ length self.old }
+        ensures here { IsRaised limit (option_map rank_of bound) turns machine (mark_at self.old machine) (mark_at self.new machine) }
+        ensures others { (m : ℕ) → nat_eq machine m ≡ false → mark_at self.new m ≡ mark_at self.old m }
+    {
+        let key = self.key(machine, turns);
+        if key >= limit {
+            return;
+        }
+        self.set_bound(machine, bound, turns);
+    }
+
+    /// The same of each machine from one on.
+    pub(crate) fn bound_from(&mut self, from: u32, limit: u128, bound: Option<Rank>, turns: u64)
+        requires { from ≤ length self.old }
+        ensures long { length self.new ≡ length self.old }
+        ensures raised { (m : ℕ) → from ≤ m → m < length self.old → IsRaised limit (option_map rank_of bound) turns m (mark_at self.old m) (mark_at self.new m) }
+        ensures others { (m : ℕ) → (mark_at self.new m ≡ mark_at self.old m) ⊎ (mark_at self.new m ≡ bounded_mark (option_map rank_of bound) turns (mark_at self.old m)) }
+    {
+        for machine in from..self.len() {
+            self.bound_one(machine, limit, bound, turns);
+        }
     }
 
     /// Pairs with a turn below this one may wait that were not looked at. What was settled since is passed in blocks from now on.
@@ -525,11 +551,8 @@ pub(crate) fn settle_all(marks: &mut Marks, turns: u64)
     ensures until { (m : ℕ) → (mark_at marks.new m ≡ mark_at marks.old m) ⊎ ((mark_at marks.new m).until ≤ turns) }
     ensures long { length marks.new ≡ length marks.old }
 {
-    let mut at = marks.next(0, number_of_none(), turns);
-    while at < marks.len() {
-        marks.set_bound(at, None, turns);
-        at = marks.next(at + 1, number_of_none(), turns);
-    }
+    let _machines = marks.len();
+    marks.bound_from(0, number_of_none(), None, turns);
 }
 
 /// Anything may be placeable on this machine.

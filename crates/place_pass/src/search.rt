@@ -3,7 +3,7 @@
 //! there, and else the pairs that were appended since are looked at. A unit that has its greatest number on a machine is passed there
 //! like one that does not fit.
 
-ghost use Rattle.std.specs.Prelude.{◌≡◌, ℕ, ◌+◌, ◌*◌, ◌<◌, ◌≤◌, ◌&&◌, ◌⊎◌, ◌≢◌, Option, List, true, false, [], ◌∷◌, ◌++◌, length, None, Some, slice_get, not, nat_eq, cond, IfSome, IsSomeAnd};
+ghost use Rattle.std.specs.Prelude.{◌≡◌, ℕ, ◌+◌, ◌*◌, ◌<◌, ◌≤◌, is_some, ◌&&◌, ◌⊎◌, ◌≢◌, Option, List, true, false, [], ◌∷◌, ◌++◌, length, None, Some, slice_get, not, nat_eq, cond, IfSome, IsSomeAnd};
 ghost use Rattle.std.proofs.Common.{get_or};
 ghost use Rattle.std.specs.Option.{is_none, option_map};
 ghost use Rattle.fuxi_terms.specs.Vectors.{at_place};
@@ -18,7 +18,7 @@ ghost use Rattle.place_pass.specs.Best.{spot_of, AreAdmitted};
 ghost use Rattle.place_pass.specs.Bounds.{MarkRecord, rank_of, mark_of, mark_at, key_of, Rises, rank_at, IsBounded, AreBoundedLater, is_bound, comes_before};
 ghost use Rattle.place_pass.specs.SearchCounts.{is_unsettled_by, count_below};
 ghost use Rattle.place_pass.specs.PlacerTrees.{TreeOf};
-ghost use Rattle.place_pass.specs.PackedRanks.{packed, IsAbove};
+ghost use Rattle.place_pass.specs.PackedRanks.{packed, IsSmall, IsAbove};
 ghost use Rattle.place_pass.specs.Sights.{IsBehind, AreBehind, ArePassed, limit_in, number_in, sight_rank, rank_with, found_rank, turn_in, IsFree, IsSight, AreBounded, is_first};
 ghost use Rattle.place_pass.specs.Scenes.{board_in, CanSearch, IsBestOn, IsMarked, IsSettledBy, AreMarked, IsFoundIn, IsLeastOn, IsEarliest};
 
@@ -677,6 +677,37 @@ fn next_other(marks: &Marks, start: MachineNo, from: u32, turns: u64, best: &Opt
     at
 }
 
+// Whether a rank that bounds all pairs does not come before the best so far on this machine, and so on none behind it.
+fn is_later(earliest: &Option<Rank>, machine: u32, best: &Option<Found>) -> bool
+    ensures small { IfSome earliest.now (λ x. IsSmall x) }
+    ensures later { result ≡ true → IsSomeAnd earliest.now (λ x. limit_in best.now ≤ packed x machine) }
+{
+    match earliest {
+        Some(rank) => number_of(*rank, machine) >= number_of_best(best),
+        None => false,
+    }
+}
+
+// By such a rank the machines from this one on need no look, and their marks say so.
+fn pass_from(
+    scene: &Scene<'_>,
+    earliest: Option<Rank>,
+    from: u32,
+    marks: &mut Marks,
+    best: &Option<Found>,
+)
+    requires earliest { IfSome earliest (λ rank. IsEarliest scene.now rank) }
+    requires small { IfSome earliest (λ x. IsSmall x) }
+    requires later { IsSomeAnd earliest (λ x. limit_in best.now ≤ packed x from) }
+    requires inside { from ≤ length marks.old }
+    requires old { AreMarked scene.now marks.old }
+    ensures marked { length marks.new ≡ length marks.old }
+    ensures marks { AreMarked scene.now marks.new }
+    ensures passed { (m : ℕ) → from ≤ m → m < length marks.old → is_some (key_of (mark_at marks.new m) scene.now.turns) ≡ true → IsAbove (mark_at marks.new m) scene.now.turns m (limit_in best.now) }
+{
+    marks.bound_from(from, number_of_best(best), earliest, scene.turns);
+}
+
 // The number of the least bound so far.
 fn number_of_least(least: &Option<Least>) -> u128
     ensures { result ≡ number_in least.now }
@@ -767,6 +798,10 @@ fn best_of_others<L: Ledger>(
     }
     let earliest = earliest(scene);
     while at < marks.len() {
+        if is_later(&earliest, at, best) {
+            pass_from(scene, earliest, at, marks, best);
+            return;
+        }
         consider_other(scene, earliest, MachineNo(at), marks, steps, best);
         at = next_other(marks, start, at + 1, scene.turns, best);
     }

@@ -1,4 +1,4 @@
-use Rattle.std.proofs.Common.{◌≡◌, ℕ, ◌+◌, ◌≤◌, false, cond, not, nat_eq, None, refl, sym, ◌∙◌, ap, subst, arith, add-one, inl, inr}
+use Rattle.std.proofs.Common.{◌≡◌, ℕ, ◌+◌, ◌≤◌, false, cond, not, nat_eq, None, length, refl, sym, ◌∙◌, ap, subst, arith, add-one, inl, inr}
 use Rattle.std.specs.Prelude.{◌&&◌}
 use Rattle.std.proofs.lemmas.Bool.{cases_lt}
 use Rattle.std.proofs.lemmas.Bool.Decides.{nat_tests}
@@ -6,7 +6,7 @@ use Rattle.place_pass.specs.Bounds.{MarkRecord, mark_at, rank_on}
 use Rattle.place_pass.specs.SearchCounts.{is_unsettled_by, count_below}
 use Rattle.place_pass.specs.Scenes.{board_in, IsLeastOn, IsSettledBy}
 use Rattle.place_pass.specs.Sights.{turn_in}
-use Rattle.place_pass.proofs.PassedMachines.{is_other, passed_least, passed_settled}
+use Rattle.place_pass.proofs.PassedMachines.{is_other, passed_least, passed_settled, later_some}
 use Rattle.place_pass.proofs.SearchCountsLemmas.{count_more}
 use Rattle.place_pass.proofs.search.best_of_others.Goals as goal
 
@@ -41,6 +41,37 @@ loop-at-init g c =
       settled = λ e. passed_settled s c.args.start.0 0 at marks c.args.best.now c.requires.old few passed e (c.requires.settled e) (λ m lt. absurd (omega (arith, lt)));
       first = c.requires.settled;
     }
+
+pub returns-then-is_later-clause-least : goal.returns-then-is_later-clause-least
+returns-then-is_later-clause-least g c m lt =
+    let i = c.loop-at.invariant in
+    let s = c.args.scene.now in
+    let marks = c.pass_from.new.marks in
+    let test = c.loop-at-test.true in
+    let number = c.len.ensures.number in
+    let all = c.len.ensures.few in
+    let marked = i.marked in
+    let origin = c.requires.marked in
+    passed_least s c.args.start.0 c.loop-at.at (length c.loop-at.marks) marks c.loop-at.best c.pass_from.ensures.marks (omega (arith, number, all, marked)) (λ m ge lt _ some. c.pass_from.ensures.passed m ge lt some) c.requires.ready i.seen i.least m (omega (arith, lt, marked, origin))
+
+pub returns-then-is_later-clause-count : goal.returns-then-is_later-clause-count
+returns-then-is_later-clause-count g c =
+    let i = c.loop-at.invariant in
+    let k = i.count in
+    let inside = i.inside in
+    let marked = i.marked in
+    let origin = c.requires.marked in
+    let more = count_more (is_other c.args.scene.now c.args.start.0 c.args.marks.now) c.loop-at.at (length c.args.scene.now.table.now.cluster.machines) (omega (arith, inside, marked, origin)) in
+    omega (arith, k, more)
+
+pub returns-then-is_later-clause-settled : goal.returns-then-is_later-clause-settled
+returns-then-is_later-clause-settled g c none =
+    let i = c.loop-at.invariant in
+    let number = c.len.ensures.number in
+    let all = c.len.ensures.few in
+    let marked = i.marked in
+    let inside = i.inside in
+    absurd (later_some c.earliest-earliest.result c.loop-at.best c.loop-at.at (omega (arith, inside, marked, number, all)) c.is_later.ensures.small (c.is_later.ensures.later c.if-is_later.true) none)
 
 pub loop-at-preserved : goal.loop-at-preserved
 loop-at-preserved g c =
