@@ -93,7 +93,11 @@ fn leave_units(
     ensures stands { AllStand wishes.now.cluster wishes.now.cells table.now.entries line.old.pairs tree.old → AllStand wishes.now.cluster wishes.now.cells table.now.entries line.new.pairs tree.new }
 {
     for number in 0..wishes.units(app) as u8 {
-        leave_unit(line, tree, wishes, turn_of, table, app, UnitNo(number));
+        let unit = UnitNo(number);
+        if wishes.outstanding(table, app, unit) > 0 {
+            continue;
+        }
+        leave_unit(line, tree, wishes, turn_of, table, app, unit);
     }
 }
 

@@ -1,4 +1,4 @@
-use Rattle.std.proofs.Common.{◌≡◌, ℕ, ◌+◌, ◌<◌, Bool, true, false, not, nat_eq, nat_lt, List, [], length, get_or, refl, sym, ◌∙◌, ap, subst, arith}
+use Rattle.std.proofs.Common.{◌≡◌, ℕ, ◌+◌, ◌<◌, Bool, true, false, cond, not, nat_eq, nat_lt, List, [], length, filter, get_or, refl, sym, ◌∙◌, ap, subst, arith}
 use Rattle.std.specs.Prelude.{◌&&◌, ◌||◌}
 use Rattle.std.proofs.lemmas.Bool.Decides.{nat_tests}
 use Rattle.fuxi_terms.specs.Keys.{Pair}
@@ -26,6 +26,22 @@ pub leave_unit-requires-clause-rises : goal.leave_unit-requires-clause-rises
 leave_unit-requires-clause-rises c =
     let f : Pair → ℕ = λ p. turn_at c.args.turn_of.now.items p.0 p.1 in
     subst (λ (l : List Pair). IsRising f l) (sym c.loop-number.invariant.pairs) (rising_filter f _ c.args.line.now.pairs c.requires.rises)
+
+pub loop-number-preserved-then-outstanding-gt0 : goal.loop-number-preserved-then-outstanding-gt0
+loop-number-preserved-then-outstanding-gt0 c =
+    let old = c.args.line.now.pairs in
+    let line = c.loop-number.line.pairs in
+    let a = c.args.app.0 in
+    let n = c.loop-number.number in
+    let w : Pair → Bool = λ p. nat_lt 0 (out_of (asks_in c.args.wishes.now.cells) c.args.table.now.entries p.0 p.1) in
+    let test : nat_lt 0 (out_of (asks_in c.args.wishes.now.cells) c.args.table.now.entries c.args.app.0 c.loop-number.number) ≡ true = let e = c.outstanding.ensures in let z = c.if-outstanding-gt0.true in grind (arith, nat_tests, e, z) in
+    record {
+      pairs = sym (ap (λ b. cond b line (filter (λ p. not (nat_eq p.0 a && nat_eq p.1 n)) line)) test) ∙ left_more w line (a, n)
+          ∙ left_then w (λ p. nat_eq p.0 a && nat_lt p.1 n) (λ p. nat_eq p.0 a && nat_eq p.1 n) (λ p. nat_eq p.0 a && nat_lt p.1 (n + 1)) old line c.loop-number.invariant.pairs (λ p. grind (arith, nat_tests));
+      room = c.loop-number.invariant.room;
+      holds = c.loop-number.invariant.holds;
+      stands = c.loop-number.invariant.stands;
+    }
 
 pub loop-number-preserved : goal.loop-number-preserved
 loop-number-preserved c =
