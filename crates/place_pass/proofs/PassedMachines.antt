@@ -5,18 +5,18 @@ use Rattle.std.specs.Option.{option_map}
 use Rattle.std.proofs.lemmas.Bool.{cases_lt}
 use Rattle.std.proofs.lemmas.Bool.Decides.{nat_tests}
 use Rattle.fuxi_terms.proofs.Booleans.{both_true, number_is}
-use Rattle.place_pass.specs.Bounds.{MarkRecord, rank_of, mark_at, key_of, zero_rank, bounded_mark, rank_at}
+use Rattle.place_pass.specs.Bounds.{MarkRecord, rank_of, mark_at, key_of, zero_rank, bounded_mark}
 use Rattle.place_pass.specs.PackedRanks.{packed, no_rank, IsSmall, IsAbove}
 use Rattle.place_pass.specs.SearchCounts.{is_unsettled_by}
 use Rattle.place_pass.specs.Scenes.{board_in, CanSearch, IsMarked, AreMarked, IsLeastOn, IsSettledBy, IsEarliest}
-use Rattle.place_pass.specs.Sights.{IsBehind, AreBehind, ArePassed, IsRaised, limit_in, found_rank, turn_in, is_first}
+use Rattle.place_pass.specs.Sights.{IsBehind, AreBehind, ArePassed, IsRaised, limit_in, found_rank, turn_in}
 use Rattle.place_pass.specs.declared.marks.Rank.{Rank}
 use Rattle.place_pass.specs.declared.search.Found.{Found}
 use Rattle.place_pass.specs.declared.search.Least.{Least}
 use Rattle.place_pass.specs.declared.search.Scene.{Scene}
 use Rattle.place_pass.proofs.PackedRanksLemmas.{not_first, never_above, none_above, above_less}
 use Rattle.place_pass.proofs.ScenesLemmas.{key_seen}
-use Rattle.place_pass.proofs.SightsLemmas.{passed_over, bounded_by, least_passed, least_settled, settled_key}
+use Rattle.place_pass.proofs.SightsLemmas.{bounded_by, least_passed, least_settled, settled_key}
 
 abbrev pub is_other : Scene → ℕ → List MarkRecord → ℕ → Bool
 is_other s start marks m = not (nat_eq m start) && is_unsettled_by s.wishes.now.opened (mark_at marks m) s.turns m
@@ -133,13 +133,8 @@ none_unsettled o marks t n m behind lt = elim (is_unsettled_by o (mark_at marks 
   | false ↦ λ _. refl
 ] refl
 
--- ---- a machine on which a rank that bounds the line everywhere does not come before the best
-pub least_raised : (s : Scene) (m : ℕ) (x : Rank) (best : Option Found) → IsEarliest s x → is_first best (rank_of x) m ≡ false → IsLeastOn s best m
-least_raised s m x best earliest later = record {
-  least = λ q has p. passed_over best (rank_of x) (rank_at (board_in s) s.table.now.entries (turn_in s.turn_of.now q) q m) m refl later (earliest.bounded q m has);
-}
-
-pub marked_raised : (s : Scene) (m : ℕ) (x : Rank) (k : MarkRecord) → IsEarliest s x → IsMarked s m (bounded_mark (Some (rank_of x)) s.turns k)
+-- ---- a machine of which the mark says that a rank bounds the line everywhere
+marked_raised : (s : Scene) (m : ℕ) (x : Rank) (k : MarkRecord) → IsEarliest s x → IsMarked s m (bounded_mark (Some (rank_of x)) s.turns k)
 marked_raised s m x k earliest = record {
   bounded = λ opened. record { bounded = λ q has lt. bounded_by (board_in s) s.table.now.entries (Some (rank_of x)) k.groups (turn_in s.turn_of.now q) q m (earliest.bounded q m has) };
   later = λ opened a u turn here ge lt. absurd (omega (arith, ge, lt));

@@ -616,39 +616,6 @@ fn consider_at<L: Ledger>(
     marks.consider(scene, machine, steps, best);
 }
 
-// The same of a machine beside the first: one on which no pair of the line can be the best is not looked at, and its mark says so.
-fn consider_other<L: Ledger>(
-    scene: &Scene<'_>,
-    earliest: Option<Rank>,
-    machine: MachineNo,
-    marks: &mut Marks,
-    steps: &mut Steps<L>,
-    best: &mut Option<Found>,
-)
-    requires ready { CanSearch scene.now }
-    requires earliest { IfSome earliest (λ rank. IsEarliest scene.now rank) }
-    requires machine { machine.0 < length scene.now.table.now.cluster.machines }
-    requires marked { length marks.old ≡ length scene.now.table.now.cluster.machines }
-    requires old { AreMarked scene.now marks.old }
-    ensures marked { length marks.new ≡ length marks.old }
-    ensures marks { AreMarked scene.now marks.new }
-    ensures least { IsLeastOn scene.now best.new machine.0 }
-    ensures kept { (r : List ℕ) → is_bound (found_rank best.old) r ≡ true → is_bound (found_rank best.new) r ≡ true }
-    ensures found { IfSome best.old (λ x. IsFoundIn scene.now x) → IfSome best.new (λ x. IsFoundIn scene.now x) }
-    ensures others { (m : ℕ) → nat_eq machine.0 m ≡ false → mark_at marks.new m ≡ mark_at marks.old m }
-    ensures count { steps.new ≤ steps.old + cond (is_unsettled_by scene.now.wishes.now.opened (mark_at marks.old machine.0) scene.now.turns machine.0) 1 0 }
-    ensures settled { best.new ≡ None → IsSettledBy scene.now machine.0 (mark_at marks.new machine.0) }
-    ensures empty { best.new ≡ None → best.old ≡ None }
-{
-    if let Some(rank) = earliest {
-        if !may_be_first(best, &rank, machine) {
-            marks.set_bound(machine.0, Some(rank), scene.turns);
-            return;
-        }
-    }
-    consider_at(scene, machine, marks, steps, best);
-}
-
 // The number of the best so far.
 fn number_of_best(best: &Option<Found>) -> u128
     ensures { result ≡ limit_in best.now }
@@ -802,7 +769,7 @@ fn best_of_others<L: Ledger>(
             pass_from(scene, earliest, at, marks, best);
             return;
         }
-        consider_other(scene, earliest, MachineNo(at), marks, steps, best);
+        consider_at(scene, MachineNo(at), marks, steps, best);
         at = next_other(marks, start, at + 1, scene.turns, best);
     }
 }
