@@ -19,7 +19,7 @@ ghost use Rattle.broadcast.specs.OneJob.{counts_at, under_job, IsNotOf, AreNumbe
 
 use crate::job_grants::show_grants;
 use crate::law;
-use crate::numbered::{each_once, run_of};
+use crate::numbered::{numbers_of, put_in_order, run_of};
 use crate::spots::has_place;
 use core_side::Side;
 use fuxi_terms::limits::MOST_MACHINES;
@@ -105,19 +105,11 @@ fn jobs_due(
     if news.reported.is_some() {
         return all_jobs(alloc, apps);
     }
-    let named = jobs_named(alloc, news)?;
-    each_once(alloc, counts, &named)
-}
-
-// The jobs of the news where no machine is reported.
-fn jobs_named(alloc: Global, news: &News) -> Result<Vec<usize>, AllocError>
-    requires { news.now.reported ≡ None }
-    ensures { IfOk result (λ named. (a : ℕ) → has_number a named.items ≡ false → IsNotOf news.now a) }
-{
-    let mut named = Vec::new(alloc);
-    put_job(&mut named, news.admitted)?;
-    put_job(&mut named, news.job)?;
-    Ok(named)
+    let mut due = numbers_of(alloc, counts)?;
+    put_job(&mut due, news.admitted)?;
+    put_job(&mut due, news.job)?;
+    put_in_order(&mut due);
+    Ok(due)
 }
 
 // All jobs with an application, from the first on: most slots have none, and are not looked at again.
@@ -304,7 +296,7 @@ fn counts_at(
 ) -> Result<Vec<(usize, (Key, u64))>, AllocError>
     ensures { IfOk result (λ counts. counts.items ≡ map under_job (counts_at table.now (map spot_of spots.now))) }
 {
-    let mut counts = Vec::new(alloc);
+    let mut counts = Vec::with_capacity(alloc, spots.len())?;
     for spot in spots {
         if has_place(table, spot) {
             counts.push((spot.app.0 as usize, count_at(table, spot)))?;

@@ -19,13 +19,24 @@ pub(crate) fn each_once<T: Copy>(
 {
     let mut numbers = numbers_of(alloc, entries)?;
     numbers.extend_from_slice(others)?;
-    numbers.sort_unstable();
-    numbers.dedup();
+    put_in_order(&mut numbers);
     Ok(numbers)
 }
 
+// Numbers, each once, from the least on.
+pub(crate) fn put_in_order(numbers: &mut Vec<usize>)
+    ensures rising { IsStrictlySortedBy nat_cmp numbers.new.items }
+    ensures same { (n : ℕ) → has_number n numbers.new.items ≡ has_number n numbers.old.items }
+{
+    numbers.sort_unstable();
+    numbers.dedup();
+}
+
 // The number of each entry.
-fn numbers_of<T: Copy>(alloc: Global, entries: &[(usize, T)]) -> Result<Vec<usize>, AllocError>
+pub(crate) fn numbers_of<T: Copy>(
+    alloc: Global,
+    entries: &[(usize, T)],
+) -> Result<Vec<usize>, AllocError>
     ensures { IfOk result (λ numbers. numbers.items ≡ map (λ e. e.0) entries.now) }
 {
     entries.iter().map(|entry| entry.0).collect(alloc)

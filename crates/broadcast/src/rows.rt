@@ -123,7 +123,7 @@ fn touched(
 ) -> Result<Vec<(usize, RowNumber)>, AllocError>
     ensures { IfOk result (λ numbers. map with_key numbers.items ≡ touched_in table.now (map spot_of spots.now)) }
 {
-    let mut numbers = Vec::new(alloc);
+    let mut numbers = Vec::with_capacity(alloc, spots.len())?;
     for spot in spots {
         if has_place(table, spot) {
             numbers.push((spot.machine.0 as usize, number_at(table, spot)))?;
