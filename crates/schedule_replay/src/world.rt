@@ -34,7 +34,8 @@ use std::marker::Model;
 /// Whatever happened to it, it stands for a world of the definitions to which events lead (`IsReached`): so what holds of every such world
 /// holds of the cores that run.
 pub struct World {
-    running: Running,
+    /// On the heap, so that who hands a world on hands on a pointer.
+    running: Box<Running>,
 }
 
 // Written out, so that who lets one go checks this call and not all of its parts.
@@ -49,9 +50,9 @@ impl Model for World {
 
     ghost Value = { WorldRecord };
 
-    ghost view = { λ w. w.running };
+    ghost view = { λ w. w.running.value };
 
-    ghost invariant = { λ w. IsReached w.running };
+    ghost invariant = { λ w. IsReached w.running.value };
 }
 
 impl World {
@@ -62,10 +63,10 @@ impl World {
         ensures stands { IfOk result (λ world. StandsFor world (empty_world cluster)) }
         ensures events { IfOk result (λ world. world.events ≡ 0) }
     {
-        match Running::start(alloc, cluster) {
-            Ok(running) => Ok(World { running }),
-            Err(refusal) => Err(refusal),
-        }
+        let running = Running::start(alloc, cluster)?;
+        Ok(World {
+            running: Box::new(alloc, running)?,
+        })
     }
 
     /// One event. `out` then has what it prints, and nothing that it had before. The event is one that a line can give, and fewer than 2^29
@@ -81,7 +82,8 @@ impl World {
         ensures events { IfOk result (λ after. after.events ≡ self.events + 1) }
         ensures stops { IfErr result (StopsAt (event_as event.now) self) }
     {
-        let World { mut running } = self;
+        let World { running } = self;
+        let mut running = running;
         match running.step(alloc, event, out) {
             Ok(()) => Ok(World { running }),
             Err(stop) => Err(stop),
@@ -101,7 +103,7 @@ impl World {
     pub fn is_reached(&self)
         ensures { IsReached self.now }
     {
-        let _running = &self.running;
+        let _running: &Running = &self.running;
     }
 
     /// Whether a master of the epoch runs, every agent runs, has joined it and is reported to it, every running application of its jobs has
@@ -109,7 +111,7 @@ impl World {
     pub fn quiet(&self, epoch: u64) -> bool
         ensures { (w : WrittenWorld) → IsWorld w → StandsFor self.now w → result ≡ is_quiet w epoch }
     {
-        let running = &self.running;
+        let running: &Running = &self.running;
         is_quiet(
             &running.cluster,
             running.checkpoint.hard(),
