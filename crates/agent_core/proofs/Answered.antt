@@ -1,11 +1,16 @@
 -- An agent's answers to packets of the known and of a new incarnation of its master are those of the agent by itself.
-use Rattle.std.proofs.Common.{◌≡◌, ℕ, ◌<◌, true, false, cond, nat_eq, List, Result, Ok, Err, sym, ◌∙◌, ap, subst, arith}
-use Rattle.std.specs.Prelude.{◌&&◌, IfOk}
+use Rattle.std.proofs.Common.{◌≡◌, ℕ, ◌<◌, true, false, cond, nat_eq, List, Result, Ok, Err, refl, sym, ◌∙◌, ap, subst, arith}
+use Rattle.std.specs.Prelude.{◌&&◌, IfOk, IfSome, Option, Some, None}
 use Rattle.fuxi_terms.specs.Keys.{RowKey}
 use Rattle.fuxi_terms.proofs.Booleans.{both_true, number_is}
 use Rattle.fuxi_terms.specs.declared.OutOfMemory.{OutOfMemory}
 use Rattle.party_ledgers.specs.Joins.{no_join, IsJoin}
 use Rattle.party_ledgers.specs.PartyDifferences.{replaced}
+use Rattle.fuxi_terms.specs.declared.vectors.Res.{Res}
+use Rattle.fuxi_terms.specs.declared.vectors.Sum.{Sum}
+use Rattle.party_ledgers.specs.Packets.{IsFormed}
+use Rattle.party_ledgers.specs.PacketHeaders.{header_of}
+use Rattle.party_ledgers.specs.declared.header.Header.{Header}
 use Rattle.party_ledgers.specs.declared.packets.Heard.{Heard}
 use Rattle.party_ledgers.specs.declared.packets.Packet.{Packet}
 use Rattle.written_net.specs.Net.{Id, same_id}
@@ -14,7 +19,7 @@ use Rattle.written_net.specs.Channels.{agent_id, is_master}
 use Rattle.written_net.specs.Sides.{HeardSide, hears_side, appended}
 use Rattle.written_roles.specs.Agents.{AgentRole, agent_party, table_by, row_excess, agent_told, agent_hears_alone}
 use Rattle.core_side.specs.Bodies.{report_of}
-use Rattle.core_side.specs.Parcels.{packet_of, parcel_is}
+use Rattle.core_side.specs.Parcels.{party_of, packet_of, parcel_is}
 use Rattle.core_side.specs.CoreSides.{HearsAlike, PostsAlike}
 use Rattle.agent_core.specs.AgentCores.{AgentCore, Up, IsUp, StandsFor}
 use Rattle.agent_core.specs.Answering.{Answers, AnswersAlike}
@@ -47,7 +52,7 @@ module _ (old : AgentCore) (x : Packet) (mine : (same_id (packet_of x).to.id (ag
     says = says ∙ ap (λ t. t.what) (sym told);
   }
 
-  known_answers : (new : AgentCore) (heard : Heard) → new.machine ≡ old.machine → new.has ≡ old.has → HearsAlike no_join replaced IsJoin report_of row_ledger (row_excess old.has) x old.up new.up heard → heard.fresh ≡ false → Answers new x heard r
+  pub known_answers : (new : AgentCore) (heard : Heard) → new.machine ≡ old.machine → new.has ≡ old.has → HearsAlike no_join replaced IsJoin report_of row_ledger (row_excess old.has) x old.up new.up heard → heard.fresh ≡ false → Answers new x heard r
   known_answers new heard machine has hears known =
       let h = hears (agent_party r) r.up s.up for_me in
       answered new heard machine has h.fresh h.says
@@ -69,3 +74,12 @@ pub known_heard : (old : AgentCore) (x : Packet) → (same_id (packet_of x).to.i
     → IfOk heard (HearsAlike no_join replaced IsJoin report_of row_ledger (row_excess old.has) x old.up new.up) → IfOk heard (λ h. h.fresh ≡ false) → IfOk heard (AnswersAlike x old new)
 known_heard old x mine new (Ok heard) machine has hears known = λ r s. known_answers old x mine r s new heard machine has hears known
 known_heard old x mine new (Err fault) machine has hears known = tt
+
+-- a packet of which the header tells enough, where there is such an answer
+pub left_as : (a : AgentCore) (up : Up) (h : Header) → up ≡ a.up → (same_id (party_of h.to).id (agent_id a.machine) && is_master (party_of h.from).id) ≡ true → (heard : Option Heard) → IfSome heard (λ t. t.fresh ≡ false)
+    → IfSome heard (λ t. (x : Packet) → IsFormed x → header_of x ≡ h → (excess : Ledger → Option (Sum × Res)) → HearsAlike no_join replaced IsJoin report_of row_ledger excess x up up t)
+    → IfSome heard (λ t. (x : Packet) → IsFormed x → header_of x ≡ h → AnswersAlike x a a t)
+left_as a up h same mine (Some heard) known hears = λ x formed is r s.
+    known_answers a x (ap (λ (i : Header). same_id (party_of i.to).id (agent_id a.machine) && is_master (party_of i.from).id) is ∙ mine) r s a heard refl refl
+    (subst (λ u. HearsAlike no_join replaced IsJoin report_of row_ledger (row_excess a.has) x u u heard) same (hears x formed is (row_excess a.has))) known
+left_as a up h same mine None known hears = tt

@@ -1,13 +1,15 @@
-ghost use Rattle.std.specs.Prelude.{◌≡◌, ◌+◌, ◌<◌, ◌≤◌, ◌&&◌, true, nat_eq, IfOk, OnOk, [], map, List, if◌then◌else◌, nat_lt};
+ghost use Rattle.std.specs.Prelude.{◌≡◌, ◌+◌, ◌<◌, ◌≤◌, ◌&&◌, true, nat_eq, IfOk, IfSome, OnOk, [], map, List, if◌then◌else◌, nat_lt};
 ghost use Rattle.std.specs.List.{AllByRecursion};
 ghost use Rattle.fuxi_terms.specs.Limits.{most_machines, most_steps};
 ghost use Rattle.fuxi_terms.specs.Rows.{row_total};
 ghost use Rattle.fuxi_terms.specs.Vectors.{fits};
 ghost use Rattle.party_ledgers.specs.Packets.{IsFormed};
+ghost use Rattle.party_ledgers.specs.PacketHeaders.{header_of};
+ghost use Rattle.party_ledgers.specs.declared.packets.Packet.{Packet};
 ghost use Rattle.written_net.specs.Net.{same_id};
 ghost use Rattle.written_net.specs.Channels.{agent_id, is_master};
 ghost use Rattle.written_roles.specs.Agents.{AgentRole, new_agent, table_by};
-ghost use Rattle.core_side.specs.Parcels.{packet_of, role_number, IsSent};
+ghost use Rattle.core_side.specs.Parcels.{party_of, role_number, IsSent};
 ghost use Rattle.agent_core.specs.AgentCores.{StandsFor, table_in};
 ghost use Rattle.agent_core.specs.AgentSeen.{IsWhole, core_of};
 ghost use Rattle.agent_core.specs.Answering.{AnswersAlike, SendsAlike, ResyncsAlike, Steps};
@@ -16,9 +18,9 @@ use crate::limit::RowLimit;
 use core_side::{Limit, Reply, Side, law};
 use delta_channel::Place;
 use ledger_law::{Ledger, OutOfMemory};
-use party_ledgers::{Heard, JoinLedger, Kind, Packet, Packets, RowLedger};
+use party_ledgers::{Header, Heard, JoinLedger, Kind, Packet, Packets, RowLedger};
 use res_vector::{Res, Sum};
-use schedule_unit::{MachineNo, Role};
+use schedule_unit::{MachineNo, Party, Role};
 use std::alloc::Global;
 use std::marker::Model;
 
@@ -114,6 +116,18 @@ impl Agent {
         }
     }
 
+    /// As what a packet with this header is heard, where that can be told without its body and hearing it changes nothing. It takes no
+    /// memory.
+    pub fn leaves(&self, header: &Header) -> Option<Reply>
+        ensures { IfSome result (λ reply. (x : Packet) → IsFormed x → header_of x ≡ header.now → AnswersAlike x self.now self.now reply) }
+    {
+        let core = &self.core;
+        if !is_for(&header.from, &header.to, core.machine) {
+            return None;
+        }
+        core.up.leaves(header)
+    }
+
     /// What the next turn sends: nothing where no master is known. It changes nothing. Where memory is refused there
     /// are no packets.
     pub fn turn(&self, alloc: Global) -> Result<Packets, OutOfMemory>
@@ -190,7 +204,7 @@ impl Core {
         ensures whole { OnOk result (IsWhole self.new) }
     {
         self.steps += 1;
-        if !is_for(packet, self.machine) {
+        if !is_for(&packet.from, &packet.to, self.machine) {
             law::strangers_change_nothing();
             return Ok(Reply::stranger());
         }
@@ -231,10 +245,9 @@ fn is_master(role: Role) -> bool
     matches!(role, Role::Master)
 }
 
-// Whether a packet is for the agent of this machine, and of a master.
-fn is_for(packet: &Packet, machine: MachineNo) -> bool
-    ensures { result ≡ (same_id (packet_of packet.now).to.id (agent_id machine.0) && is_master (packet_of packet.now).from.id) }
+// Whether what one party sends to another is for the agent of this machine, and of a master.
+fn is_for(from: &Party, to: &Party, machine: MachineNo) -> bool
+    ensures { result ≡ (same_id (party_of to.now).id (agent_id machine.0) && is_master (party_of from.now).id) }
 {
-    (is_agent(packet.to.role) && packet.to.number == machine.0)
-        && (is_master(packet.from.role) && packet.from.number == 0)
+    (is_agent(to.role) && to.number == machine.0) && (is_master(from.role) && from.number == 0)
 }

@@ -1,16 +1,22 @@
 -- A core that stands for an application still does after it heard a packet of the known master, and of a new one.
 use Rattle.std.proofs.Common.{◌≡◌, ℕ, ◌<◌, true, false, cond, nat_eq, List, length, Result, Ok, Err, sym, ◌∙◌, ap, subst}
-use Rattle.std.specs.Prelude.{IfOk}
+use Rattle.std.specs.Prelude.{IfOk, IfSome, Option, Some, None}
 use Rattle.fuxi_terms.specs.Lists.{below}
 use Rattle.fuxi_terms.specs.Tallies.{empty_tally}
 use Rattle.fuxi_terms.specs.TallyKeys.{greatest_demand}
 use Rattle.fuxi_terms.specs.declared.OutOfMemory.{OutOfMemory}
 use Rattle.ledger_law.specs.Shapes.{IsTally}
 use Rattle.fuxi_terms.proofs.Booleans.{both_true, number_is}
+use Rattle.fuxi_terms.specs.declared.vectors.Res.{Res}
+use Rattle.fuxi_terms.specs.declared.vectors.Sum.{Sum}
+use Rattle.party_ledgers.specs.Packets.{IsFormed}
+use Rattle.party_ledgers.specs.PacketHeaders.{header_of}
+use Rattle.party_ledgers.specs.declared.header.Header.{Header}
 use Rattle.party_ledgers.specs.declared.packets.Heard.{Heard}
 use Rattle.party_ledgers.specs.declared.packets.Packet.{Packet}
 use Rattle.written_net.specs.Net.{same_id}
 use Rattle.written_net.specs.Channels.{app_id, is_master}
+use Rattle.written_net.specs.Ledgers.{Ledger}
 use Rattle.written_net.specs.Sides.{HeardSide, hears_side, shown, appended}
 use Rattle.written_roles.specs.Apps.{AppRole, app_party, app_told, no_excess, joined_demand, names, usable_of, carried_in, carry_of}
 use Rattle.core_side.specs.Bodies.{tally_of}
@@ -18,7 +24,7 @@ use Rattle.core_side.specs.Parcels.{packet_of, parcel_is}
 use Rattle.core_side.specs.CoreSides.{HearsAlike as SideHears}
 use Rattle.app_master.specs.Usable.{carried_at, is_named, usable_in}
 use Rattle.app_master.specs.AppCores.{AppCore, StandsFor, Up, IsUp, patched_demand}
-use Rattle.app_master.specs.AppPackets.{is_for, HearsAlike}
+use Rattle.app_master.specs.AppPackets.{is_between, is_for, HearsAlike}
 use Rattle.app_master.proofs.CarriedLemmas.{carried_then}
 
 -- a packet that is for the application comes from a master
@@ -43,7 +49,7 @@ stays a up steps r epoch h known side s = record {
 }
 
 -- a packet of the known master is heard as the application by itself does
-known_hears : (a : AppCore) (x : Packet) (up : Up) (steps : ℕ) → is_for x a.job ≡ true → (heard : Heard) → SideHears empty_tally patched_demand (IsTally greatest_demand) tally_of tally_of no_excess x a.up up heard → heard.fresh ≡ false → HearsAlike a x (record a { up = up; steps = steps }, heard)
+pub known_hears : (a : AppCore) (x : Packet) (up : Up) (steps : ℕ) → is_for x a.job ≡ true → (heard : Heard) → SideHears empty_tally patched_demand (IsTally greatest_demand) tally_of tally_of no_excess x a.up up heard → heard.fresh ≡ false → HearsAlike a x (record a { up = up; steps = steps }, heard)
 known_hears a x up steps is heard hears known r s =
     let mine = comes_to x a r s is in
     let h = hears (app_party r) r.up s.up mine.0 in
@@ -60,6 +66,15 @@ pub known_heard : (a : AppCore) (x : Packet) (up : Up) (steps : ℕ) → is_for 
     → IfOk heard (λ h. HearsAlike a x (record a { up = up; steps = steps }, h))
 known_heard a x up steps is (Ok heard) hears known = known_hears a x up steps is heard hears known
 known_heard a x up steps is (Err fault) hears known = tt
+
+-- a packet of which the header tells enough, where there is such an answer
+pub left_as : (a : AppCore) (up : Up) (h : Header) → up ≡ a.up → is_between h.from h.to a.job ≡ true → (heard : Option Heard) → IfSome heard (λ t. t.fresh ≡ false)
+    → IfSome heard (λ t. (x : Packet) → IsFormed x → header_of x ≡ h → (excess : Ledger → Option (Sum × Res)) → SideHears empty_tally patched_demand (IsTally greatest_demand) tally_of tally_of excess x up up t)
+    → IfSome heard (λ t. (x : Packet) → IsFormed x → header_of x ≡ h → HearsAlike a x (a, t))
+left_as a up h same mine (Some heard) known hears = λ x formed is.
+    known_hears a x a.up a.steps (ap (λ (i : Header). is_between i.from i.to a.job) is ∙ mine) heard
+    (subst (λ u. SideHears empty_tally patched_demand (IsTally greatest_demand) tally_of tally_of no_excess x u u heard) same (hears x formed is no_excess)) known
+left_as a up h same mine None known hears = tt
 
 -- of a new one: what was held is carried, and the demand is appended
 pub joins : (a : AppCore) (up : Up) (counts : List (List ℕ)) (steps : ℕ) (r : AppRole) (epoch : ℕ) (h : HeardSide) → h.fresh ≡ true → IsUp up r.boot (appended false (joined_demand epoch (shown r.up)) h.side)

@@ -3,14 +3,18 @@ use Rattle.std.specs.Prelude.{◌≡◌, ℕ, Bool, ◌&&◌, List, map}
 use Rattle.written_net.specs.Net.{same_id}
 use Rattle.written_net.specs.Channels.{app_id, is_master}
 use Rattle.written_roles.specs.Apps.{AppRole, app_hears_alone, app_turn}
+use Rattle.schedule_unit.specs.declared.party.Party.{Party}
 use Rattle.party_ledgers.specs.declared.packets.Packet.{Packet}
 use Rattle.party_ledgers.specs.declared.packets.Heard.{Heard}
-use Rattle.core_side.specs.Parcels.{packet_of, parcel_is}
+use Rattle.core_side.specs.Parcels.{party_of, parcel_is}
 use Rattle.app_master.specs.AppCores.{AppCore, StandsFor}
 
--- the packet is for the application of this job, of a master
+-- what one party sends to another is for the application of this job, of a master
+abbrev pub is_between : Party → Party → ℕ → Bool
+is_between from to job = same_id (party_of to).id (app_id job) && is_master (party_of from).id
+
 abbrev pub is_for : Packet → ℕ → Bool
-is_for x job = same_id (packet_of x).to.id (app_id job) && is_master (packet_of x).from.id
+is_for x job = is_between x.from x.to job
 
 -- the application by itself hears the packet, and the new core stands for it then
 pub record Hears (new : AppCore) (x : Packet) (heard : Heard) (r : AppRole) : Type 0 where

@@ -1,6 +1,6 @@
 //! The application master of one job, in one boot.
 
-ghost use Rattle.std.specs.Prelude.{IfErr, ◌+◌, nat_eq, ◌≡◌, ◌<◌, ◌≤◌, ◌&&◌, ◌++◌, ◌∷◌, [], ℕ, Bool, true, false, not, nat_lt, cond, length, List, IfOk, OnOk, OnErr, IsTrue, is_some, Ok};
+ghost use Rattle.std.specs.Prelude.{IfErr, ◌+◌, nat_eq, ◌≡◌, ◌<◌, ◌≤◌, ◌&&◌, ◌++◌, ◌∷◌, [], ℕ, Bool, true, false, not, nat_lt, cond, length, List, IfOk, IfSome, OnOk, OnErr, IsTrue, is_some, Ok};
 ghost use Rattle.std.specs.List.{AllByRecursion};
 ghost use Rattle.std.proofs.Common.{get_or};
 ghost use Rattle.fuxi_terms.specs.Cluster.{has_rack};
@@ -9,6 +9,8 @@ ghost use Rattle.fuxi_terms.specs.Keys.{key_cmp};
 ghost use Rattle.fuxi_terms.specs.Counts.{count};
 ghost use Rattle.fuxi_terms.specs.TallyKeys.{key, count_key, greatest_demand};
 ghost use Rattle.party_ledgers.specs.Packets.{IsFormed};
+ghost use Rattle.party_ledgers.specs.PacketHeaders.{header_of};
+ghost use Rattle.party_ledgers.specs.declared.packets.Packet.{Packet};
 ghost use Rattle.party_ledgers.specs.declared.packets.Kind.TheVariants.{End};
 ghost use Rattle.written_roles.specs.Apps.{AppRole, new_app, demands_alone, held_by, usable_by, given_by, app_resynced, names, Wants, WantsNear, WantsInRack, Avoids, GivesBack};
 ghost use Rattle.core_side.specs.Parcels.{role_number, IsSent};
@@ -16,7 +18,7 @@ ghost use Rattle.app_master.specs.Usable.{is_named, usable_in, carried_at, held_
 ghost use Rattle.app_master.specs.AppCores.{IsAppCore, StandsFor};
 ghost use Rattle.app_master.specs.AppSeen.{core_of};
 ghost use Rattle.app_master.specs.AppCommands.{Commands};
-ghost use Rattle.app_master.specs.AppPackets.{is_for, HearsAlike, SendsAlike};
+ghost use Rattle.app_master.specs.AppPackets.{is_between, HearsAlike, SendsAlike};
 
 use crate::asking::{join, set_number};
 use crate::carried::Carried;
@@ -29,8 +31,8 @@ use fuxi_terms::OutOfMemory;
 use fuxi_terms::limits::{GREATEST_BACK, GREATEST_COUNT, MOST_RACKS};
 use fuxi_terms::tally_keys::{AVOID, BACK, NEAR, RACK, WANT};
 use ledger_law::Key;
-use party_ledgers::{Demand, Grants, Heard, Packet, Packets};
-use schedule_unit::{AppNo, MachineNo, RackNo, Role, UnitNo};
+use party_ledgers::{Demand, Grants, Header, Heard, Packet, Packets};
+use schedule_unit::{AppNo, MachineNo, Party, RackNo, Role, UnitNo};
 use std::alloc::Global;
 use std::marker::Model;
 
@@ -249,6 +251,18 @@ impl AppMaster {
             Ok(reply) => Ok((AppMaster { core }, reply)),
             Err(fault) => Err(fault),
         }
+    }
+
+    /// As what a packet with this header is heard, where that can be told without its body and hearing it changes nothing. It takes no
+    /// memory.
+    pub fn leaves(&self, header: &Header) -> Option<Reply>
+        ensures { IfSome result (λ reply. (x : Packet) → IsFormed x → header_of x ≡ header.now → HearsAlike self.now x (self.now, reply)) }
+    {
+        let core = &self.core;
+        if !is_for(&header.from, &header.to, core.app) {
+            return None;
+        }
+        core.up.leaves(header)
     }
 
     /// What the next turn sends. It changes nothing. Where memory is refused there are no packets.
@@ -471,7 +485,7 @@ impl Core {
     {
         law::strangers_change_nothing();
         self.steps += 1;
-        if !is_for(packet, self.app) {
+        if !is_for(&packet.from, &packet.to, self.app) {
             return Ok(Reply::stranger());
         }
         if packet.from.inc <= self.up.peer() {
@@ -497,12 +511,11 @@ fn test_count(count: u64) -> Result<(), AppFault>
     }
 }
 
-// Whether a packet is for the application of this job, of a master.
-fn is_for(packet: &Packet, app: AppNo) -> bool
-    ensures { result ≡ is_for packet.now app.0 }
+// Whether what one party sends to another is for the application of this job, of a master.
+fn is_for(from: &Party, to: &Party, app: AppNo) -> bool
+    ensures { result ≡ is_between from.now to.now app.0 }
 {
-    (is_app(packet.to.role) && packet.to.number == app.0)
-        && (is_master(packet.from.role) && packet.from.number == 0)
+    (is_app(to.role) && to.number == app.0) && (is_master(from.role) && from.number == 0)
 }
 
 fn is_app(role: Role) -> bool

@@ -26,7 +26,7 @@ use Rattle.schedule_unit.specs.declared.party.Role.{Role}
 use Rattle.fuxi_terms.specs.Counts.{then_do}
 use Rattle.party_ledgers.specs.declared.packets.Kind.TheVariants.{Ack as AckHere, Delta as DeltaHere, Full as FullHere, End}
 use Rattle.party_ledgers.specs.declared.packets.Packet.{Packet as PacketHere}
-use Rattle.written_net.specs.Net.{Party, Id, Link, Packet, Kind, Ack, Delta, Full, Heard as HeardThere, same_id, met, acknowledge, place_moved, unmoved, hear, word_of, link_after}
+use Rattle.written_net.specs.Net.{Party, Id, Link, Packet, Kind, Ack, Delta, Full, Heard as HeardThere, same_id, met, acknowledge, place_moved, unmoved, hear, is_taken, word_of, link_after}
 use Rattle.written_net.specs.Ledgers.{Ledger, nothing}
 use Rattle.written_net.specs.Sides.{Side, Parcel, HeardSide, heard_with, hears_side, taken_as, tested, patched_by, Taking, Took, TooMuch, Refused, unless_excess}
 use Rattle.core_side.specs.Parcels.{id_of, party_of, kind_of, content_of, packet_of, parcel_is}
@@ -42,6 +42,14 @@ same_id_itself d = and_true (nat_eq d.role d.role) (nat_eq d.number d.number) (n
 
 for_me : (p : Party) (x : Packet) → x.to.id ≡ p.id → not (same_id x.to.id p.id && true) ≡ false
 for_me p x to = ap (λ d. not (same_id d p.id && true)) to ∙ ap (λ b. not (b && true)) (same_id_itself p.id)
+
+-- the word of a verdict that is not to take
+pub not_taken_word : (v : Verdict) → (v ≡ Take → ⊥) → is_taken (told_as v) ≡ false
+not_taken_word Take other = absurd (other refl)
+not_taken_word IsOld other = refl
+not_taken_word IsGap other = refl
+not_taken_word IsNotMine other = refl
+not_taken_word IsStale other = refl
 
 -- a Full and a Delta name their sender's incarnation
 pub own_place : (x : PacketHere) → is_bare x.kind ≡ false → IsFormed x → x.place.inc ≡ x.from.inc

@@ -1,7 +1,13 @@
-ghost use Rattle.std.specs.Prelude.{◌≡◌, ◌+◌, ◌<◌, ◌^◌, ℕ, List, true, false, if◌then◌else◌, nat_lt, IsTrue, IfOk, OnOk, OnErr, IsOk, Ok, ◌++◌, map};
+ghost use Rattle.std.specs.Prelude.{◌≡◌, ◌+◌, ◌<◌, ◌^◌, ℕ, List, true, false, if◌then◌else◌, nat_lt, IsTrue, IfOk, IfSome, OnOk, OnErr, IsOk, Ok, Option, ◌++◌, map};
 ghost use Rattle.std.specs.List.{AllByRecursion};
 ghost use Rattle.full_sync.specs.Turns.{new_endpoint};
+ghost use Rattle.fuxi_terms.specs.declared.vectors.Res.{Res};
+ghost use Rattle.fuxi_terms.specs.declared.vectors.Sum.{Sum};
 ghost use Rattle.party_ledgers.specs.Packets.{IsFormed, is_number_of, is_bare};
+ghost use Rattle.party_ledgers.specs.PacketHeaders.{header_of};
+ghost use Rattle.party_ledgers.specs.declared.packets.Packet.{Packet};
+ghost use Rattle.written_net.specs.Ledgers.{Ledger as WrittenLedger};
+ghost use Rattle.written_net.specs.Net.{is_taken};
 ghost use Rattle.written_net.specs.Sides.{Side as WrittenSide, new_side};
 ghost use Rattle.core_side.specs.CoreSides.{IsSide, SaysWord, HearsAlike, PostsAlike, IsShown};
 ghost use Rattle.core_side.specs.Sending.{TurnsAlike, packet_for};
@@ -21,7 +27,7 @@ use delta_channel::{Place, Stamp, Verdict};
 use full_sync::{Duplex, Note};
 use fuxi_terms::{Res, Sum, What};
 use ledger_law::{LedgerFault, OutOfMemory};
-use party_ledgers::{Body, Kind, Packet, Packets};
+use party_ledgers::{Body, Header, Kind, Packet, Packets};
 use schedule_unit::Party;
 use std::alloc::Global;
 use std::marker::Model;
@@ -107,6 +113,31 @@ impl<A: Carried, B: Carried> Side<A, B> {
                 Ok(Reply::make(fresh, what))
             }
             Kind::Ack | Kind::End => unreachable!(),
+        }
+    }
+
+    /// As what a packet with this header is heard, where that can be told without its body and hearing it changes nothing: one of an
+    /// earlier incarnation, and a ledger or a change of the known one that is not to be taken. It takes no memory.
+    pub fn leaves(&self, header: &Header) -> Option<Reply>
+        ensures known { IfSome result (λ reply. reply.fresh ≡ false) }
+        ensures left { IfSome result (λ reply. is_taken reply.what ≡ false) }
+        ensures hears { IfSome result (λ reply. (x : Packet) → IsFormed x → header_of x ≡ header.now → (excess : WrittenLedger → Option (Sum × Res)) → HearsAlike A.nothing A.patched A.has_form A.stated B.stated excess x self.now self.now reply) }
+    {
+        law::words_are_one();
+        let _own = self.ends.own();
+        if header.from.inc < self.ends.peer() {
+            return Some(Reply::stale());
+        }
+        let known = self.ends.peer();
+        if header.from.inc != known || header.place.inc != known {
+            return None;
+        }
+        if is_bare(header.kind) {
+            return None;
+        }
+        match self.ends.verdict(&stamp_on(header)) {
+            Verdict::Take => None,
+            verdict => Some(left(false, verdict)),
         }
     }
 
@@ -360,6 +391,27 @@ fn stamp_of(packet: &Packet) -> Stamp
         to: packet.to.inc,
         full: matches!(packet.kind, Kind::Full),
         place: packet.place,
+    }
+}
+
+// Whether a packet of this kind holds nothing.
+fn is_bare(kind: Kind) -> bool
+    ensures { result ≡ is_bare kind }
+{
+    matches!(kind, Kind::Ack | Kind::End)
+}
+
+// The same of a header.
+fn stamp_on(header: &Header) -> Stamp
+    ensures packet { (x : Packet) → header_of x ≡ header.now → result ≡ stamp_of (packet_of x) }
+    ensures from { result.from ≡ header.now.from.inc }
+    ensures place { result.place ≡ header.now.place }
+{
+    Stamp {
+        from: header.from.inc,
+        to: header.to.inc,
+        full: matches!(header.kind, Kind::Full),
+        place: header.place,
     }
 }
 

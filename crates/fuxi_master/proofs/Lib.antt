@@ -37,6 +37,7 @@ pub mod Started
 pub mod RoomMade
 pub mod Adopted
 pub mod StepsLemmas
+pub mod Left
 pub mod AnswersAlike
 pub mod Below
 pub mod BannedShut

@@ -167,8 +167,8 @@ module _ (law : (c : ClusterRecord) (sides : Id → Side) (M : Master) (forced :
   }
 
   -- an application's packet that changes nothing of it
-  pub app_quiet : (x : CoreRecord) (near : IsNear x) (a : ℕ) (packet : Packet) (heard : Heard) (r : MasterRole) → HearsApp a packet heard x r → HasBoots (λ b. heard.fresh && nat_eq b a) x → IsHeardOnly a heard.fresh (is_taken heard.what) near.role → heard.fresh ≡ false → is_taken heard.what ≡ false → (packet_of packet).from.id ≡ app_id a → talks r.cluster r.state (app_id a) ≡ true → HearsRole packet x heard r
-  app_quiet x near a packet heard r ha boots only old kept from talk =
+  pub app_kept : (x : CoreRecord) → IsCore x → (a : ℕ) (packet : Packet) (heard : Heard) (r : MasterRole) → HearsApp a packet heard x r → heard.fresh ≡ false → is_taken heard.what ≡ false → (packet_of packet).from.id ≡ app_id a → talks r.cluster r.state (app_id a) ≡ true → HearsRole packet x heard r
+  app_kept x core a packet heard r ha old kept from talk =
       let c = r.cluster in
       let M = r.state in
       let h = heard_of r (app_id a) packet in
@@ -177,7 +177,11 @@ module _ (law : (c : ClusterRecord) (sides : Id → Side) (M : Master) (forced :
       let taken : is_taken h.what ≡ false = ap is_taken (sym ha.says) ∙ kept in
       let state : told_of M h.fresh (is_taken h.what) (app_id a) l ≡ M = (λ i. told_of M (fresh i) (taken i) (app_id a) l) in
       hears_from x packet heard r (told_by_peer r (app_id a) packet) (from_peer packet r (app_id a) from talk)
-      (subst (StandsFor x) (λ i. ends_alone c (set_side r.sides (app_id a) h.side) (sym state i) []) (quiet_ends law x (app_quiet_core x near heard.fresh (is_taken heard.what) a boots only old kept) (with_heard r (app_id a) h) ha.role), ha.fresh, ha.says)
+      (subst (StandsFor x) (λ i. ends_alone c (set_side r.sides (app_id a) h.side) (sym state i) []) (quiet_ends law x core (with_heard r (app_id a) h) ha.role), ha.fresh, ha.says)
+
+  pub app_quiet : (x : CoreRecord) (near : IsNear x) (a : ℕ) (packet : Packet) (heard : Heard) (r : MasterRole) → HearsApp a packet heard x r → HasBoots (λ b. heard.fresh && nat_eq b a) x → IsHeardOnly a heard.fresh (is_taken heard.what) near.role → heard.fresh ≡ false → is_taken heard.what ≡ false → (packet_of packet).from.id ≡ app_id a → talks r.cluster r.state (app_id a) ≡ true → HearsRole packet x heard r
+  app_quiet x near a packet heard r ha boots only old kept from talk =
+      app_kept x (app_quiet_core x near heard.fresh (is_taken heard.what) a boots only old kept) a packet heard r ha old kept from talk
 
   -- one that does
   pub app_changed : (x y v : CoreRecord) (a : ℕ) (packet : Packet) (heard : Heard) (taken : Bool) (news : News) (r : MasterRole) → HearsApp a packet heard x r → taken ≡ is_taken heard.what → (packet_of packet).from.id ≡ app_id a → talks r.cluster r.state (app_id a) ≡ true

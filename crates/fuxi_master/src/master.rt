@@ -1,6 +1,6 @@
 //! The master of one epoch.
 
-ghost use Rattle.std.specs.Prelude.{◌≡◌, ◌+◌, ◌<◌, ◌≤◌, ℕ, T, true, if◌then◌else◌, length, map, Some, IfOk};
+ghost use Rattle.std.specs.Prelude.{◌≡◌, ◌+◌, ◌<◌, ◌≤◌, ℕ, T, true, if◌then◌else◌, length, map, Some, IfOk, IfSome};
 ghost use Rattle.std.specs.List.{AllByRecursion};
 ghost use Rattle.std.specs.Ordering.{nat_cmp};
 ghost use Rattle.std.specs.FinMap.Entries.{is_sorted};
@@ -11,6 +11,8 @@ ghost use Rattle.fuxi_terms.specs.Tables.{total_at};
 ghost use Rattle.fuxi_terms.specs.TallyKeys.{want_key};
 ghost use Rattle.core_side.specs.Parcels.{id_of, IsSent};
 ghost use Rattle.party_ledgers.specs.Packets.{IsFormed};
+ghost use Rattle.party_ledgers.specs.PacketHeaders.{header_of};
+ghost use Rattle.party_ledgers.specs.declared.packets.Packet.{Packet};
 ghost use Rattle.grant_table.specs.GrantTables.{as_known};
 ghost use Rattle.place_pass.specs.Placers.{asks_seen};
 ghost use Rattle.written_roles.specs.MasterRoles.{MasterRole, master_started};
@@ -31,7 +33,7 @@ use failover::{Machines, Phase};
 use fuxi_terms::OutOfMemory;
 use grant_table::GrantTable;
 use hard_state::{Hard, Known};
-use party_ledgers::{Kind, Packet, Packets};
+use party_ledgers::{Header, Kind, Packet, Packets};
 use place_pass::Line;
 use schedule_unit::{AppNo, MachineNo, Party, UnitNo};
 use std::alloc::Global;
@@ -122,6 +124,14 @@ impl Master {
             },
             reply,
         ))
+    }
+
+    /// As what a packet with this header is heard, where that can be told without its body and hearing it changes nothing: by a step
+    /// with which the master stays as it is. It takes no memory.
+    pub fn leaves(&self, header: &Header) -> Option<Reply>
+        ensures { IfSome result (λ reply. (x : Packet) → IsFormed x → header_of x ≡ header.now → StepsAlike (MasterEvent.Packet x) self.now.core self.now.core (Outcome.Heard reply)) }
+    {
+        self.core.leaves(header)
     }
 
     /// What its next turn sends, as [`Master::step`] says it.

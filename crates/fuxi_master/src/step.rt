@@ -1,31 +1,34 @@
 //! One step of a master.
 
-ghost use Rattle.std.specs.Prelude.{◌≡◌, ◌<◌, ◌≤◌, true, false, length, IfOk};
+ghost use Rattle.std.specs.Prelude.{◌≡◌, ◌<◌, ◌≤◌, true, false, length, IfOk, IfSome};
 ghost use Rattle.fuxi_terms.specs.Cluster.{JobRecord};
 ghost use Rattle.fuxi_terms.specs.Jobs.{is_known};
 ghost use Rattle.schedule_unit.specs.declared.party.Role.TheVariants.{Master as AsMaster, Agent as AsAgent, App as AsApp};
 ghost use Rattle.fuxi_terms.specs.Limits.{most_machines, most_steps};
 ghost use Rattle.party_ledgers.specs.Packets.{IsFormed};
+ghost use Rattle.party_ledgers.specs.PacketHeaders.{header_of};
+ghost use Rattle.party_ledgers.specs.declared.packets.Packet.{Packet};
+ghost use Rattle.written_roles.specs.MasterRoles.{MasterRole};
 ghost use Rattle.written_net.specs.Net.{is_taken, same_id};
 ghost use Rattle.written_net.specs.Channels.{master_id};
-ghost use Rattle.core_side.specs.Parcels.{packet_of};
-ghost use Rattle.fuxi_master.specs.Cores.{IsCore, IsWithin};
+ghost use Rattle.core_side.specs.Parcels.{party_of};
+ghost use Rattle.fuxi_master.specs.Cores.{IsCore, IsWithin, StandsFor};
 ghost use Rattle.fuxi_master.specs.Seen.{core_of};
-ghost use Rattle.fuxi_master.specs.Steps.{IsFitting, IsStep, IsHeard};
+ghost use Rattle.fuxi_master.specs.Steps.{IsFitting, IsStep, IsHeard, HearsRole};
 
 use crate::event::{MasterEvent, MasterRefusal, Outcome};
 use crate::state::{Core, news};
 use core_side::Reply;
 use fuxi_terms::OutOfMemory;
-use party_ledgers::{Kind, Packet};
-use schedule_unit::{AppNo, Job, MachineNo, Role};
+use party_ledgers::{Header, Kind, Packet};
+use schedule_unit::{AppNo, Job, MachineNo, Party, Role};
 use std::alloc::Global;
 
-// Whether a packet is for the master.
-fn is_for_master(packet: &Packet) -> bool
-    ensures { result ≡ same_id (packet_of packet.now).to.id master_id }
+// Whether what is sent to a party is for the master.
+fn is_for_master(to: &Party) -> bool
+    ensures { result ≡ same_id (party_of to.now).id master_id }
 {
-    matches!(packet.to.role, Role::Master) && packet.to.number == 0
+    matches!(to.role, Role::Master) && to.number == 0
 }
 
 // One step of a core on the heap, which is the one of this number. It stays where it is unless a job is admitted.
@@ -114,6 +117,31 @@ impl Core {
         }
     }
 
+    // As what a packet with this header is heard, where that can be told without its body and hearing it changes nothing.
+    pub(crate) fn leaves(&self, header: &Header) -> Option<Reply>
+        requires core { IsCore (core_of self.now) }
+        ensures { IfSome result (λ reply. (x : Packet) → IsFormed x → header_of x ≡ header.now → (r : MasterRole) → StandsFor (core_of self.now) r → HearsRole x (core_of self.now) reply r) }
+    {
+        written_roles::law::step_ends();
+        if !is_for_master(&header.to) {
+            return None;
+        }
+        let number = header.from.number;
+        match header.from.role {
+            Role::Master => None,
+            Role::Agent => {
+                if number >= self.allotment.table().cluster().machines() {
+                    return None;
+                }
+                self.agent(number).leaves(header)
+            }
+            Role::App => {
+                self.known.job(AppNo(number))?;
+                self.app(number).leaves(header)
+            }
+        }
+    }
+
     // A packet, with the end of the step where it changed something.
     fn hear(&mut self, alloc: Global, packet: Packet, steps: u64) -> Result<Reply, OutOfMemory>
         requires core { IsCore (core_of self.old) }
@@ -125,7 +153,7 @@ impl Core {
     {
         written_roles::law::step_ends();
         core_side::law::strangers_change_nothing();
-        if !is_for_master(&packet) {
+        if !is_for_master(&packet.to) {
             return Ok(Reply::stranger());
         }
         match packet.from.role {

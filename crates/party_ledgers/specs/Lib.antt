@@ -7,3 +7,4 @@ pub mod PartyDifferences
 pub mod Packets
 pub mod Weighing
 pub mod PairCodes
+pub mod PacketHeaders

@@ -13,6 +13,7 @@ ghost use Rattle.ledger_law.specs.Differing.{ByDifference, AlwaysReaches, IsTall
 ghost use Rattle.party_ledgers.specs.Joins.{IsJoin};
 ghost use Rattle.party_ledgers.specs.PartyDifferences.{AreFewTogether, IsReplacement, replaced, replacement};
 
+mod header;
 mod join;
 mod packets;
 mod row;
@@ -21,6 +22,7 @@ mod row_ledger;
 mod row_totals;
 mod shapes;
 
+pub use header::Header;
 pub use join::JoinLedger;
 pub use packets::{Body, Heard, Kind, Packet, Packets, What, are_parties, is_place_of};
 pub use row_ledger::{RowChange, RowEntry, RowLedger};

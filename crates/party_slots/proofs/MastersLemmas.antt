@@ -1,6 +1,6 @@
 -- Masters in their slots.
 use Rattle.std.proofs.Common.{◌≡◌, ℕ, ◌<◌, Bool, true, false, cond, not, nat_eq, List, [], ◌∷◌, map, Option, Some, None, is_some, Result, Ok, Err, ◌≤◌, refl, sym, ◌∙◌, ap, subst}
-use Rattle.std.specs.Prelude.{IfOk, OnOk, T, ◌||◌}
+use Rattle.std.specs.Prelude.{IfOk, IfSome, OnOk, T, ◌||◌}
 use Rattle.std.specs.List.{AllByRecursion, list_any}
 use Rattle.std.specs.List.Sorted.{IsStrictlySortedBy}
 use Rattle.std.specs.Map.{keys_of, lookup}
@@ -18,6 +18,9 @@ use Rattle.fuxi_terms.specs.Cluster.{ClusterRecord}
 use Rattle.fuxi_terms.proofs.Booleans.{eq_turned, nat_itself, number_is}
 use Rattle.fuxi_terms.proofs.CountsLemmas.{both_true, lesser}
 use Rattle.fuxi_terms.proofs.Lookups.{none_is}
+use Rattle.party_ledgers.specs.Packets.{IsFormed}
+use Rattle.party_ledgers.specs.PacketHeaders.{header_of}
+use Rattle.party_ledgers.specs.declared.header.Header.{Header}
 use Rattle.party_ledgers.specs.declared.packets.Heard.{Heard}
 use Rattle.party_ledgers.specs.declared.packets.Packet.{Packet}
 use Rattle.core_side.specs.Parcels.{parcel_is}
@@ -65,6 +68,11 @@ heard_role packet old (Ok after) steps = λ r s. by r s
         record { role = a.role; fresh = h.0; says = h.1 }
     by (OfAgent r) s = absurd s
     by (OfApp r) s = absurd s
+
+pub left_role : (h : Header) (m : MasterRecord) (heard : Option Heard) → IfSome heard (λ t. (packet : Packet) → IsFormed packet → header_of packet ≡ h → StepsAlike (PacketComes packet) m.core m.core (HeardOne t))
+    → IfSome heard (λ t. (packet : Packet) → IsFormed packet → header_of packet ≡ h → HearsAlike (MasterStands m) (MasterStands m) packet t)
+left_role h m None steps = tt
+left_role h m (Some t) steps = λ packet formed is. heard_role packet m (Ok (m, t)) (steps packet formed is)
 
 pub sent_role : (old : MasterRecord) (r : Result (MasterRecord × List Packet) OutOfMemory) → IfOk r (λ after. StepsAlike Turn old.core after.0.core (Sent after.1))
     → IfOk r (λ after. SendsAlike (MasterStands old) (MasterStands after.0) after.1)

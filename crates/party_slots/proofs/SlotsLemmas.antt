@@ -7,6 +7,9 @@ use Rattle.std.specs.Ordering.{nat_cmp, is_eq}
 use Rattle.fuxi_terms.specs.Cluster.{ClusterRecord}
 use Rattle.fuxi_terms.specs.Limits.{most_steps}
 use Rattle.fuxi_terms.proofs.Booleans.{false_right, nat_itself, number_is}
+use Rattle.party_ledgers.specs.Packets.{IsFormed}
+use Rattle.party_ledgers.specs.PacketHeaders.{header_of}
+use Rattle.party_ledgers.specs.declared.header.Header.{Header}
 use Rattle.party_ledgers.specs.declared.packets.Heard.{Heard}
 use Rattle.party_ledgers.specs.declared.packets.Packet.{Packet}
 use Rattle.written_net.specs.Net.{Packet as WrittenPacket}
@@ -218,6 +221,19 @@ module _ {P : Type 0} (stands : P → Role → Type 0) where
             says = h.says ∙ c.says;
             ruled = subst IsRuled (sym h.says) c.ruled;
           }
+
+  -- where nothing changes
+  as_it_was : (n : ℕ) (p : P) (x : SlotsRecord P) → slot_at x n ≡ Some p → IsSet n (Some p) (boot_at x n) x x
+  as_it_was n p x was = record { here = by (entry_at x n) was; others = λ m apart. refl }
+    where
+      by : (e : Option (Option P × ℕ)) → party_in e ≡ Some p → e ≡ Some (Some p, boot_in e)
+      by None is = cc
+      by (Some e) is = ap (λ o. Some (o, e.1)) is
+
+  pub left_here : HearsJoin → (n : ℕ) (h : Header) (p : P) (x : SlotsRecord P) → slot_at x n ≡ Some p → (heard : Option Heard) → IfSome heard (λ t. (packet : Packet) → IsFormed packet → header_of packet ≡ h → HearsAlike (stands p) (stands p) packet t)
+      → IfSome heard (λ t. (packet : Packet) → IsFormed packet → header_of packet ≡ h → HearInWorld stands n packet x x (Some t))
+  left_here join n h p x was None alike = tt
+  left_here join n h p x was (Some t) alike = λ packet formed is. heard_here join n packet t p p x x was (as_it_was n p x was) (alike packet formed is)
 
   pub lost_here : HearsJoin → (n : ℕ) (packet : Packet) (old new : SlotsRecord P) → slot_at old n ≡ None → IsStill n old new → HearInWorld stands n packet old new None
   lost_here join n packet old new was still w k which x good leads s at to is = by (seen w k n) (at_slot w k n None old s was) (join w k n which x good leads at to)

@@ -10,7 +10,7 @@ use crate::slots::Slots;
 use agent_core::Agent;
 use core_side::Reply;
 use ledger_law::OutOfMemory;
-use party_ledgers::{Kind, Packet, Packets};
+use party_ledgers::{Header, Kind, Packet, Packets};
 use res_vector::Res;
 use schedule_unit::MachineNo;
 use std::alloc::Global;
@@ -25,6 +25,10 @@ impl Party for Agent {
 
     fn hear(self, alloc: Global, packet: Packet) -> Result<(Agent, Reply), OutOfMemory> {
         Agent::hear(self, alloc, &packet)
+    }
+
+    fn leaves(&self, header: &Header) -> Option<Reply> {
+        Agent::leaves(self, header)
     }
 
     fn turn(self, alloc: Global) -> Result<(Agent, Packets), OutOfMemory> {

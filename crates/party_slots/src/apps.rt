@@ -12,7 +12,7 @@ use app_master::AppMaster;
 use cluster_desc::Cluster;
 use core_side::Reply;
 use ledger_law::OutOfMemory;
-use party_ledgers::{Kind, Packet, Packets};
+use party_ledgers::{Header, Kind, Packet, Packets};
 use party_orders::AppCommand;
 use schedule_text::Refusal;
 use schedule_unit::AppNo;
@@ -28,6 +28,10 @@ impl Party for AppMaster {
 
     fn hear(self, alloc: Global, packet: Packet) -> Result<(AppMaster, Reply), OutOfMemory> {
         AppMaster::hear(self, alloc, &packet)
+    }
+
+    fn leaves(&self, header: &Header) -> Option<Reply> {
+        AppMaster::leaves(self, header)
     }
 
     fn turn(self, alloc: Global) -> Result<(AppMaster, Packets), OutOfMemory> {

@@ -18,7 +18,7 @@ use fuxi_io::Disk;
 use fuxi_master::{Master, MasterEvent};
 use hard_state::Hard;
 use ledger_law::OutOfMemory;
-use party_ledgers::{Kind, Packet, Packets};
+use party_ledgers::{Header, Kind, Packet, Packets};
 use party_orders::{Halt, MasterCommand};
 use schedule_text::Refusal;
 use std::alloc::Global;
@@ -33,6 +33,10 @@ impl Party for Master {
 
     fn hear(self, alloc: Global, packet: Packet) -> Result<(Master, Reply), OutOfMemory> {
         Master::hear(self, alloc, packet)
+    }
+
+    fn leaves(&self, header: &Header) -> Option<Reply> {
+        Master::leaves(self, header)
     }
 
     fn turn(self, alloc: Global) -> Result<(Master, Packets), OutOfMemory> {

@@ -2,16 +2,18 @@
 
 use core_side::Reply;
 use ledger_law::OutOfMemory;
-use party_ledgers::{Kind, Packet, Packets};
+use party_ledgers::{Header, Kind, Packet, Packets};
 use std::alloc::Global;
 
 /// One party as it runs. What its calls do is said of every party of the definitions that it stands for. Each is at most one step, of
 /// which fewer than 2^50 may be taken. Where memory is refused the party is gone.
 pub trait Party: Sized + Drop {
-    ghost use Rattle.std.specs.Prelude.{◌≡◌, ◌+◌, ◌<◌, ◌≤◌, ℕ, IfOk};
+    ghost use Rattle.std.specs.Prelude.{◌≡◌, ◌+◌, ◌<◌, ◌≤◌, ℕ, IfOk, IfSome};
     ghost use Rattle.std.specs.List.{AllByRecursion};
     ghost use Rattle.fuxi_terms.specs.Limits.{most_steps};
     ghost use Rattle.party_ledgers.specs.Packets.{IsFormed};
+    ghost use Rattle.party_ledgers.specs.PacketHeaders.{header_of};
+    ghost use Rattle.party_ledgers.specs.declared.packets.Packet.{Packet};
     ghost use Rattle.core_side.specs.Parcels.{IsSent};
     ghost use Rattle.written_parties.specs.SeenParties.{Role, resynced};
     ghost use Rattle.party_slots.specs.PartyAnswers.{HearsAlike, SendsAlike};
@@ -29,6 +31,10 @@ pub trait Party: Sized + Drop {
         requires steps { steps self < most_steps }
         ensures hears { IfOk result (λ after. HearsAlike (stands self) (stands after.0) packet after.1) }
         ensures steps { IfOk result (λ after. steps after.0 ≤ steps self + 1) };
+
+    /// As what it hears a packet with this header, where that can be told without its body and hearing it changes nothing.
+    fn leaves(&self, header: &Header) -> Option<Reply>
+        ensures { IfSome result (λ reply. (packet : Packet) → IsFormed packet → header_of packet ≡ header.now → HearsAlike (stands self.now) (stands self.now) packet reply) };
 
     /// What it sends in one turn.
     fn turn(self, alloc: Global) -> Result<(Self, Packets), OutOfMemory>

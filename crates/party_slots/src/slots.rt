@@ -9,6 +9,8 @@ ghost use Rattle.std.specs.Option.{option_copied};
 ghost use Rattle.std.specs.Ordering.{nat_cmp};
 ghost use Rattle.fuxi_terms.specs.Cluster.{ClusterRecord};
 ghost use Rattle.party_ledgers.specs.Packets.{IsFormed};
+ghost use Rattle.party_ledgers.specs.PacketHeaders.{header_of};
+ghost use Rattle.party_ledgers.specs.declared.packets.Packet.{Packet};
 ghost use Rattle.written_world.specs.World.{empty_world};
 ghost use Rattle.fuxi_terms.specs.Limits.{most_steps};
 ghost use Rattle.written_parties.specs.SeenParties.{Kind as KindOf, Role, resynced};
@@ -18,7 +20,7 @@ ghost use Rattle.party_slots.specs.Slots.{entry_at, slot_at, boot_at, ActsInSlot
 use crate::party::Party;
 use core_side::Reply;
 use ledger_law::OutOfMemory;
-use party_ledgers::{Kind, Packet, Packets};
+use party_ledgers::{Header, Kind, Packet, Packets};
 use std::alloc::Global;
 use std::collections::BTreeMap;
 use std::collections::btree_map::Keys;
@@ -194,6 +196,18 @@ impl<P: Party> Slots<P> {
                 ensures steps { IfOk result (λ after. P.steps after.0 ≤ P.steps party + 1) }
             { party.hear(alloc, packet) },
         )
+    }
+
+    /// As what the party of a number, which it is for, hears a packet with this header, where that can be told without its body and
+    /// hearing it changes nothing.
+    pub fn leaves(&self, number: u64, header: &Header) -> Option<Reply>
+        ensures { IfSome result (λ reply. (packet : Packet) → IsFormed packet → header_of packet ≡ header.now → HearInWorld P.stands number packet self.now self.now (Some reply)) }
+    {
+        law::parties_join();
+        match self.get(number) {
+            Some(party) => party.leaves(header),
+            None => None,
+        }
     }
 
     /// What the party of a number sends in one turn; `None` where none runs.

@@ -1,12 +1,15 @@
 -- What one party hears of a packet, and what runs then stands for.
 use Rattle.std.proofs.Common.{◌≡◌, ◌+◌, ℕ, true, [], ◌∷◌, Option, Some, None, sym, ◌∙◌, ap, subst, arith}
 use Rattle.std.proofs.lemmas.Bool.Decides.{nat_tests}
+use Rattle.std.specs.Prelude.{IfSome}
 use Rattle.fuxi_terms.specs.Cluster.{is_valid_cluster}
 use Rattle.fuxi_terms.proofs.Booleans.{both_true}
 use Rattle.schedule_unit.specs.declared.party.Party.{Party}
 use Rattle.schedule_unit.specs.declared.party.Role.{Role}
 use Rattle.schedule_unit.specs.declared.party.Role.TheVariants.{Master, Agent, App}
 use Rattle.party_ledgers.specs.Packets.{IsFormed, is_number_of}
+use Rattle.party_ledgers.specs.PacketHeaders.{header_of}
+use Rattle.party_ledgers.specs.declared.header.Header.{Header}
 use Rattle.party_ledgers.specs.declared.packets.Packet.{Packet}
 use Rattle.party_ledgers.specs.declared.packets.Heard.{Heard}
 use Rattle.core_side.specs.Parcels.{id_of, parcel_is}
@@ -23,7 +26,7 @@ use Rattle.written_parties.specs.SeenParties.{Kind, IsFor, Role as SeenRole}
 use Rattle.party_slots.specs.Slots.{SlotsRecord, AreWithin as PartiesWithin, HearInWorld, HearsOneIn}
 use Rattle.schedule_replay.specs.Worlds.{WorldRecord, StandsFor}
 use Rattle.party_orders.specs.OrderedParties.{kind_named}
-use Rattle.schedule_replay.specs.Moves.{IsPart, IsHeardBy, IsHeardIn, heard_lines}
+use Rattle.schedule_replay.specs.Moves.{IsPart, IsHeardBy, IsHeardIn, HearsIn, heard_lines}
 
 -- In a good world on a valid cluster all lead, as the law of changes states it
 abbrev pub Leads : Type 0
@@ -80,3 +83,15 @@ module _ {P : Type 0} {stands : P → SeenRole → Type 0} {steps : P → ℕ} {
     once = part.moves old after within;
     pool = part.frames old after;
   }
+
+  -- or tells of which packets with a header it hears without their bodies
+  pub left_by : IsPart P stands steps k of put → Leads → (n : ℕ) (h : Header) (old : WorldRecord) → put (of old) old ≡ old → ((packet : Packet) → IsFormed packet → header_of packet ≡ h → (net : Net Ledger) (x : WrittenPacket) → parcel_is packet ≡ parcel_of net x → IsFor x k n)
+      → (heard : Option Heard) → IfSome heard (λ t. (packet : Packet) → IsFormed packet → header_of packet ≡ h → HearInWorld stands n packet (of old) (of old) (Some t)) → IfSome heard (λ t. (packet : Packet) → IsFormed packet → header_of packet ≡ h → HearsIn packet old old (Some t))
+  left_by part leads n h old same named None hears = tt
+  left_by part leads n h old same named (Some t) hears = λ packet formed headed w which x is s there e.
+      subst (λ r. IsHeardIn w x r (Some t)) same (hears_in part w n x old (of old) (Some t) s (hears packet formed headed w k which x is.good (leads w is.valid is.good) (part.stand w old s) there (named packet formed headed w.net x e) e))
+
+-- whom a header names
+pub names : (role : Role) (h : Header) → h.to.role ≡ role → (packet : Packet) → IsFormed packet → header_of packet ≡ h → (net : Net Ledger) (x : WrittenPacket) → parcel_is packet ≡ parcel_of net x → IsFor x (kind_named role) (number_named role h.to)
+names role h is packet formed headed net x same =
+    subst (λ (p : Party). IsFor x (kind_named role) (number_named role p)) (ap (λ (k : Header). k.to) headed) (is_for role packet net x (ap (λ (k : Header). k.to.role) headed ∙ is) formed same)

@@ -5,6 +5,8 @@ use Rattle.std.proofs.lemmas.Bool.Decides.{nat_tests}
 use Rattle.std.proofs.lemmas.Option.{slice_get-map, same_Some}
 use Rattle.fuxi_terms.specs.Cluster.{is_valid_cluster}
 use Rattle.fuxi_terms.proofs.Lists.{all_at}
+use Rattle.party_ledgers.specs.Packets.{IsFormed}
+use Rattle.party_ledgers.specs.PacketHeaders.{header_of}
 use Rattle.party_ledgers.specs.declared.packets.Packet.{Packet as PacketHere}
 use Rattle.party_ledgers.specs.declared.packets.Heard.{Heard}
 use Rattle.core_side.specs.Parcels.{parcel_is, IsSent}
@@ -14,12 +16,15 @@ use Rattle.written_roles.specs.Refusals.{with_found, NoPacket}
 use Rattle.written_world.specs.World.{World, Step, prints_nothing, refused, then_step}
 use Rattle.written_world.specs.Events.{Deliver, addressed, heard_by, heard_line, packet_of, deliver_one, deliver_all, deliver}
 use Rattle.written_world.specs.EventRanges.{is_from_line}
+use Rattle.wire_frames.specs.Fronts.{IsFront}
 use Rattle.wire_frames.specs.ReadFrames.{Reads}
+use Rattle.wire_frames.specs.declared.read.Front.{Front}
 use Rattle.wire_frames.specs.declared.fault.FrameFault.{FrameFault}
 use Rattle.packet_pool.specs.PacketPools.{Stored, Keeps, IsReadAs}
 use Rattle.schedule_replay.specs.ReplayTexts.{lines_text}
 use Rattle.schedule_replay.specs.Worlds.{WorldRecord, KeepsPackets, IsWorld, StandsFor}
 use Rattle.schedule_replay.specs.Moves.{HearsIn, Does, TookSteps, heard_lines}
+use Rattle.schedule_replay.specs.WorldSteps.{IsDone}
 use Rattle.schedule_replay.proofs.SentIsKept.{kept_length}
 use Rattle.schedule_replay.proofs.PeersActInWorld.{first_fails, first_passes}
 use Rattle.schedule_replay.proofs.StepAfterStep.{GoodKept, OrderKept, acted_is}
@@ -48,16 +53,35 @@ pub stored_found : StoredIsRead → (w : World) (p : Stored) (i : ℕ) (bytes : 
 stored_found law w p i bytes packet size k at reads = kept_found w p i packet k (law p k.packets i bytes (Ok (packet, size)) k.kept at reads).0
 
 -- One delivery
-pub delivers : (number : ℕ) (old new : WorldRecord) (packet : PacketHere) (heard : Option Heard) (before after : List ℕ) → ((w : World) → KeepsPackets w old.pool → IsFound w (number - 1) packet) → HearsIn packet old new heard
-    → after ≡ before ++ lines_text (heard_lines number heard) → Does (deliver_one number) old new before after
-delivers number old new packet heard before after found hears text w is s =
-    let f = found w s.packets in
+delivered : (number : ℕ) (old new : WorldRecord) (packet : PacketHere) (heard : Option Heard) (before after : List ℕ) (w : World) → IsFound w (number - 1) packet → HearsIn packet old new heard
+    → after ≡ before ++ lines_text (heard_lines number heard) → IsWorld w → StandsFor old w → IsDone (deliver_one number w) new before after
+delivered number old new packet heard before after w f hears text is s =
     let h = hears w (number - 1) f.written is s f.there f.same in
     let step : Option Packet → Step = λ o. with_found o (prints_nothing w) (λ x. record { world = addressed w x; lines = heard_line number (heard_by w x) ∷ [] }) in
     record {
       stands = subst (λ o. StandsFor new (step o).world) (sym f.there) h.stands;
       text = text ∙ ap (λ ls. before ++ lines_text ls) (h.lines number ∙ ap (λ o. (step o).lines) (sym f.there));
     }
+
+pub delivers : (number : ℕ) (old new : WorldRecord) (packet : PacketHere) (heard : Option Heard) (before after : List ℕ) → ((w : World) → KeepsPackets w old.pool → IsFound w (number - 1) packet) → HearsIn packet old new heard
+    → after ≡ before ++ lines_text (heard_lines number heard) → Does (deliver_one number) old new before after
+delivers number old new packet heard before after found hears text w is s = delivered number old new packet heard before after w (found w s.packets) hears text is s
+
+-- The law of stored headers, as it is called for
+abbrev pub FrontIsRead : Type 0
+FrontIsRead = (p : Stored) (xs : List PacketHere) (i : ℕ) (bytes : List ℕ) (front : Front) → Keeps p xs → slice_get p.frames i ≡ Some bytes → IsFront bytes front → option_map header_of (slice_get xs i) ≡ Some front.header
+
+-- one of which the header tells enough
+pub delivers_left : FrontIsRead → (number : ℕ) (old : WorldRecord) (bytes : List ℕ) (front : Front) (heard : Heard) (before after : List ℕ) → slice_get old.pool.frames (number - 1) ≡ Some bytes → IsFront bytes front
+    → ((x : PacketHere) → IsFormed x → header_of x ≡ front.header → HearsIn x old old (Some heard)) → after ≡ before ++ lines_text (heard_lines number (Some heard)) → Does (deliver_one number) old old before after
+delivers_left law number old bytes front heard before after at read hears text w is s = by (slice_get s.packets.packets (number - 1)) refl
+  where
+    by : (o : Option PacketHere) → slice_get s.packets.packets (number - 1) ≡ o → IsDone (deliver_one number w) old before after
+    by None none = let e = ap (option_map header_of) (sym none) ∙ law old.pool s.packets.packets (number - 1) bytes front s.packets.kept at read in absurd (let no : ⊥ = cc in no)
+    by (Some x) there =
+        let e = ap (option_map header_of) (sym there) ∙ law old.pool s.packets.packets (number - 1) bytes front s.packets.kept at read in
+        let found = kept_found w old.pool (number - 1) x s.packets there in
+        delivered number old old x (Some heard) before after w found (hears x found.sent.formed (same_Some _ _ e)) text is s
 
 -- none where fewer were sent
 none_there : {A : Type 0} (xs : List A) (i : ℕ) → length xs ≤ i → slice_get xs i ≡ None

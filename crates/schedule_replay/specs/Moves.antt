@@ -9,7 +9,7 @@ use Rattle.written_net.specs.Net.{Packet as WrittenPacket}
 use Rattle.written_world.specs.World.{World, Step}
 use Rattle.written_roles.specs.MasterSteps.{BansMachine}
 use Rattle.written_world.specs.Outputs.{Line, Refused, Judged, Lost, Came}
-use Rattle.written_world.specs.Events.{addressed, commanded, heard_by, heard_line}
+use Rattle.written_world.specs.Events.{addressed, commanded, deliver_one, heard_by, heard_line}
 use Rattle.written_join.specs.SeenWorlds.{parcel_of}
 use Rattle.packet_pool.specs.PacketPools.{Stored, Keeps, limit_of as pool_limit}
 use Rattle.packet_pool.specs.declared.fault.PoolFault.{PoolFault}
@@ -181,6 +181,12 @@ HearsIn packet old new heard = (w : World) (which : ℕ) (x : WrittenPacket) →
 -- in one move, and none is sent
 pub record IsHeardBy (packet : Packet) (old new : WorldRecord) (heard : Option Heard) : Type 0 where
   pub hears : HearsIn packet old new heard
+  pub once : MovesOnce old new
+  pub pool : new.pool ≡ old.pool
+
+-- the packet of a number is heard, whatever text is written of it
+pub record IsHeardAs (number : ℕ) (heard : Option Heard) (old new : WorldRecord) : Type 0 where
+  pub does : (before after : List ℕ) → after ≡ before ++ lines_text (heard_lines number heard) → Does (deliver_one number) old new before after
   pub once : MovesOnce old new
   pub pool : new.pool ≡ old.pool
 

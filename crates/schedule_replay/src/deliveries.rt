@@ -1,9 +1,11 @@
 //! Deliveries: what parties hear.
 
-ghost use Rattle.std.specs.Prelude.{◌≡◌, ◌<◌, ◌≤◌, IfOk};
+ghost use Rattle.std.specs.Prelude.{◌≡◌, ◌<◌, ◌≤◌, length, IfOk, IfSome, Some};
 ghost use Rattle.party_ledgers.specs.Packets.{IsFormed};
+ghost use Rattle.party_ledgers.specs.PacketHeaders.{header_of};
+ghost use Rattle.party_ledgers.specs.declared.packets.Packet.{Packet};
 ghost use Rattle.written_world.specs.Events.{deliver, deliver_one, deliver_range, dump};
-ghost use Rattle.schedule_replay.specs.Moves.{Acts, ActsOnce, CanMove, CanMoveLong, IsHeardBy};
+ghost use Rattle.schedule_replay.specs.Moves.{Acts, ActsOnce, CanMove, CanMoveLong, HearsIn, IsHeardAs, IsHeardBy};
 
 use crate::law;
 use crate::running::Running;
@@ -11,11 +13,11 @@ use crate::stop::WorldStop;
 use crate::text::{write_heard, write_kept, write_refusal};
 use core_side::Reply;
 use fuxi_terms::OutOfMemory;
-use party_ledgers::{Kind, Packet};
+use party_ledgers::{Header, Kind, Packet};
 use schedule_text::Refusal;
 use schedule_unit::Role;
 use std::alloc::Global;
-use wire_frames::read_packet;
+use wire_frames::{read_behind, read_front};
 
 // A packet is heard by the party that it is for, if that runs: the master of the epoch that it names, the agent of its machine or the
 // application of its job.
@@ -44,7 +46,54 @@ fn hear(running: &mut Running, alloc: Global, packet: Packet) -> Result<Option<R
     }
 }
 
-// The packet of this number is delivered, read from its stored frame; none where fewer were sent.
+// As what the party that a packet with this header is for hears it, where that runs, can tell it without the body and stays as it is.
+fn leaves(running: &Running, header: &Header) -> Option<Reply>
+    ensures { IfSome result (λ reply. (x : Packet) → IsFormed x → header_of x ≡ header.now → HearsIn x running.now running.now (Some reply)) }
+{
+    written_join::law::every_change_is_taken();
+    law::masters_act();
+    law::agents_act();
+    law::apps_act();
+    if matches!(header.kind, Kind::Ack | Kind::End) {
+        return None;
+    }
+    let to = header.to;
+    match to.role {
+        Role::Master => running.masters.leaves(to.inc, header),
+        Role::Agent => running.agents.leaves(to.number as u64, header),
+        Role::App => running.apps.leaves(to.number as u64, header),
+    }
+}
+
+// As what the packet of this number, if so many were sent, is heard. It is read from its stored frame, its body only where its header
+// does not tell enough.
+fn hear_stored(
+    running: &mut Running,
+    alloc: Global,
+    number: u64,
+) -> Result<Option<Reply>, OutOfMemory>
+    requires first { 0 < number }
+    requires there { number ≤ length running.old.pool.frames }
+    requires can { CanMove running.old }
+    ensures { IfOk result (λ heard. IsHeardAs number heard running.old running.new) }
+{
+    packet_pool::law::stored_is_read();
+    let Some(bytes) = running.pool.frame(number) else {
+        unreachable!()
+    };
+    let Ok(front) = read_front(bytes) else {
+        return Err(OutOfMemory);
+    };
+    if let Some(reply) = leaves(running, &front.header) {
+        return Ok(Some(reply));
+    }
+    match read_behind(alloc, &front, bytes) {
+        Ok((packet, _)) => hear(running, alloc, packet),
+        Err(_) => Err(OutOfMemory),
+    }
+}
+
+// The packet of this number is delivered; none where fewer were sent.
 fn deliver_one(
     running: &mut Running,
     alloc: Global,
@@ -55,15 +104,10 @@ fn deliver_one(
     requires can { CanMove running.old }
     ensures { ActsOnce (deliver_one number) running.old running.new out.old.items out.new.items result }
 {
-    packet_pool::law::stored_is_read();
-    let Some(bytes) = running.pool.frame(number) else {
+    if number > running.pool.len() {
         return Ok(());
-    };
-    let packet = match read_packet(alloc, bytes) {
-        Ok((packet, _)) => packet,
-        Err(_) => return Err(WorldStop::OutOfMemory),
-    };
-    let Ok(heard) = hear(running, alloc, packet) else {
+    }
+    let Ok(heard) = hear_stored(running, alloc, number) else {
         return Err(WorldStop::OutOfMemory);
     };
     write_heard(number, heard, out)

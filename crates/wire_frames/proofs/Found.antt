@@ -8,12 +8,12 @@ use Rattle.party_ledgers.specs.declared.packets.Body.{Body}
 use Rattle.party_ledgers.specs.declared.packets.Packet.{Packet}
 use Rattle.wire_frames.specs.Frames.{place_bytes, header_bytes, body_bytes, frame}
 use Rattle.wire_frames.specs.ReadFrames.{length_in, place_in}
-use Rattle.wire_frames.specs.Headers.{IsHeader}
-use Rattle.wire_frames.specs.declared.read.Header.{Header}
+use Rattle.wire_frames.specs.Fronts.{IsFront}
+use Rattle.wire_frames.specs.declared.read.Front.{Front}
 use Rattle.wire_frames.proofs.Parts.{IsBytes, cut, number_4, number_8, byte_1, kind_is, party_13}
 
-abbrev pub packet_of : Header → Body → Packet
-packet_of h body = record { from = h.from; to = h.to; kind = h.kind; place = h.place; body = body }
+abbrev pub packet_of : Front → Body → Packet
+packet_of h body = record { from = h.header.from; to = h.header.to; kind = h.header.kind; place = h.header.place; body = body }
 
 place_16 : (bytes : List ℕ) (p : Place) → IsBytes bytes → 48 ≤ length bytes → place_in bytes ≡ p → take 16 (drop 32 bytes) ≡ place_bytes p
 place_16 bytes p are h e =
@@ -22,19 +22,19 @@ place_16 bytes p are h e =
     cut bytes 32 8 8 40 16 refl refl ∙ (λ i. inc i ++ seq i)
 
 -- the 44 bytes of the header
-header_44 : (bytes : List ℕ) (h : Header) (body : Body) → IsBytes bytes → 48 ≤ length bytes → IsHeader bytes h → take 44 (drop 4 bytes) ≡ header_bytes (packet_of h body)
+header_44 : (bytes : List ℕ) (h : Front) (body : Body) → IsBytes bytes → 48 ≤ length bytes → IsFront bytes h → take 44 (drop 4 bytes) ≡ header_bytes (packet_of h body)
 header_44 bytes h body are long is =
     let first = byte_1 bytes 4 (omega (arith, long)) ∙ ap (λ b. b ∷ []) is.first in
-    let kind = byte_1 bytes 5 (omega (arith, long)) ∙ ap (λ b. b ∷ []) (sym (kind_is (slice_index bytes 5) h.kind is.kind_is)) in
-    let from = party_13 bytes 6 h.from are (omega (arith, long)) is.from_is in
-    let to = party_13 bytes 19 h.to are (omega (arith, long)) is.to_is in
-    let place = place_16 bytes h.place are long is.place_is in
+    let kind = byte_1 bytes 5 (omega (arith, long)) ∙ ap (λ b. b ∷ []) (sym (kind_is (slice_index bytes 5) h.header.kind is.kind_is)) in
+    let from = party_13 bytes 6 h.header.from are (omega (arith, long)) is.from_is in
+    let to = party_13 bytes 19 h.header.to are (omega (arith, long)) is.to_is in
+    let place = place_16 bytes h.header.place are long is.place_is in
     let behind_to = cut bytes 19 13 16 32 29 refl refl ∙ (λ i. to i ++ place i) in
     let behind_from = cut bytes 6 13 29 19 42 refl refl ∙ (λ i. from i ++ behind_to i) in
     let behind_kind = cut bytes 5 1 42 6 43 refl refl ∙ (λ i. kind i ++ behind_from i) in
     cut bytes 4 1 43 5 44 refl refl ∙ (λ i. first i ++ behind_kind i)
 
-pub frame_in : (bytes : List ℕ) (h : Header) (body : Body) → IsBytes bytes → IsHeader bytes h → take (h.end - 48) (drop 48 bytes) ≡ body_bytes body → take h.end bytes ≡ frame (packet_of h body)
+pub frame_in : (bytes : List ℕ) (h : Front) (body : Body) → IsBytes bytes → IsFront bytes h → take (h.end - 48) (drop 48 bytes) ≡ body_bytes body → take h.end bytes ≡ frame (packet_of h body)
 unfolding frame
 frame_in bytes h body are is behind =
     let long : 48 ≤ length bytes = omega (arith, is.body, is.whole) in

@@ -3,7 +3,10 @@ use Rattle.std.specs.Prelude.{◌≡◌, ◌≢◌, ℕ, List, ◌++◌, length,
 use Rattle.std.proofs.Common.{take_at, refl, sym, ◌∙◌, ap, subst, arith, length-append}
 use Rattle.party_ledgers.specs.declared.packets.Packet.{Packet}
 use Rattle.party_ledgers.specs.Packets.{IsBodyOf}
+use Rattle.party_ledgers.specs.PacketHeaders.{header_of}
 use Rattle.wire_frames.specs.Frames.{body_bytes, frame, IsFrame}
+use Rattle.wire_frames.specs.Fronts.{IsFront}
+use Rattle.wire_frames.specs.declared.read.Front.{Front}
 use Rattle.wire_frames.specs.ReadFrames.{header_fault, Begins, HasFault, Reads}
 use Rattle.wire_frames.specs.declared.fault.FrameFault.{FrameFault}
 use Rattle.wire_frames.specs.declared.fault.FrameFault.TheVariants.{Short, Length, Version, Kind, Role, Place, Body, OutOfMemory}
@@ -31,6 +34,16 @@ one_begins bytes x y n m b c =
       packet = λ i. record { from = from i; to = to i; kind = kind i; place = place i; body = body i };
       size = omega (arith, begins_size bytes x n b, begins_size bytes y m c, long);
     }
+
+-- what stands in front of a frame is of its packet
+pub one_header : (bytes : List ℕ) (x : Packet) (n : ℕ) (front : Front) → Begins bytes x n → IsFront bytes front → header_of x ≡ front.header
+one_header bytes x n front b is =
+    let f = begins_fields bytes x n b in
+    let kind = same_some _ _ (sym f.kind_is ∙ is.kind_is) in
+    let from = same_some _ _ (sym f.from_is ∙ is.from_is) in
+    let to = same_some _ _ (sym f.to_is ∙ is.to_is) in
+    let place = sym f.place_is ∙ is.place_is in
+    λ i. record { from = from i; to = to i; kind = kind i; place = place i }
 
 pub begins_whole : (x : Packet) (a more : List ℕ) → IsFrame x a → Begins (a ++ more) x (length a)
 begins_whole x a more f = record { within = omega (arith, length-append a more); frame = subst (IsFrame x) (sym (take_at a more (length a) refl)) f }

@@ -1,5 +1,5 @@
 pub mod Frames
 pub mod ReadFrames
 pub mod Names
-pub mod Headers
+pub mod Fronts
 pub mod Streams

@@ -2,11 +2,14 @@
 
 ghost use Rattle.std.specs.Prelude.{◌≡◌, ◌≢◌, ◌+◌, ◌<◌, ℕ, List, [], ◌++◌, length, take, Result, Err};
 ghost use Rattle.party_ledgers.specs.declared.packets.Packet.{Packet};
+ghost use Rattle.party_ledgers.specs.PacketHeaders.{header_of};
 ghost use Rattle.wire_frames.specs.Frames.{IsFrame, body_length};
-ghost use Rattle.wire_frames.specs.ReadFrames.{Reads, HasFault, BeginsNone};
+ghost use Rattle.wire_frames.specs.Fronts.{IsFront};
+ghost use Rattle.wire_frames.specs.ReadFrames.{Begins, Reads, HasFault, BeginsNone};
 ghost use Rattle.wire_frames.specs.Streams.{Event, Runs, Splits, bytes_fed, packets_given};
 ghost use Rattle.wire_frames.specs.declared.fault.FrameFault.{FrameFault as Fault};
 ghost use Rattle.wire_frames.specs.declared.fault.FrameFault.TheVariants.{Short, OutOfMemory};
+ghost use Rattle.wire_frames.specs.declared.read.Front.{Front};
 
 /// Bytes are the frame of one packet, and no frame begins another. It does nothing; its contract is this law.
 pub fn one_frame()
@@ -16,6 +19,11 @@ pub fn one_frame()
 /// A frame has 48 bytes and those that the entries of its body take. It does nothing; its contract is this law.
 pub fn frame_lengths()
     ensures { (x : Packet) (bytes : List ℕ) → IsFrame x bytes → length bytes ≡ 48 + body_length x.body }
+{}
+
+/// The header in front of a frame stands on its packet. It does nothing; its contract is this law.
+pub fn one_header()
+    ensures { (bytes : List ℕ) (x : Packet) (n : ℕ) (front : Front) → Begins bytes x n → IsFront bytes front → header_of x ≡ front.header }
 {}
 
 /// What reading gives is given by the bytes alone, unless memory lacks. What stands behind them changes it only

@@ -10,7 +10,7 @@ mod stream;
 mod write;
 
 pub use fault::FrameFault;
-pub use read::read_packet;
+pub use read::{Front, read_behind, read_front, read_packet};
 pub use stream::Stream;
 pub use write::{frame_length, write_packet};
 

@@ -6,7 +6,7 @@ ghost use Rattle.ledger_law.specs.ReadForms.{Reads as ReadsForm};
 ghost use Rattle.party_ledgers.specs.Packets.{IsBodyOf};
 ghost use Rattle.wire_frames.specs.Frames.{body_bytes, HasForm};
 ghost use Rattle.wire_frames.specs.ReadFrames.{number_at, kind_of, role_of, party_at, HasFault, Reads};
-ghost use Rattle.wire_frames.specs.Headers.{IsHeader};
+ghost use Rattle.wire_frames.specs.Fronts.{IsFront};
 
 use crate::fault::FrameFault;
 use crate::{FRONT_BYTES, HEADER_BYTES, LENGTH_BYTES, VERSION};
@@ -14,19 +14,16 @@ use delta_channel::Place;
 use fuxi_terms::limits::MOST_BODY_BYTES;
 use ledger_law::{BodyFault, Ledger};
 use party_ledgers::{
-    Body, Demand, Grants, JoinLedger, Kind, Packet, RowLedger, are_parties, is_place_of,
+    Body, Demand, Grants, Header, JoinLedger, Kind, Packet, RowLedger, are_parties, is_place_of,
 };
 use schedule_unit::{Party, Role};
 use std::alloc::Global;
 
-// A header that has no fault, and where its frame ends.
+/// What stands in front of a body: a header that has no fault, and where its frame ends.
 #[derive(Clone, Copy)]
-struct Header {
-    kind: Kind,
-    from: Party,
-    to: Party,
-    place: Place,
-    end: usize,
+pub struct Front {
+    pub header: Header,
+    pub end: usize,
 }
 
 fn u32_at(bytes: &[u8], at: usize) -> u32
@@ -85,10 +82,10 @@ fn party_at(bytes: &[u8], at: usize) -> Option<Party>
     })
 }
 
-// The header with which the bytes begin, or its first fault.
+/// The header with which the bytes begin, or its first fault: of a frame that is whole, without its body. It takes no memory.
 #[tactic(auto, unfolding(crate::specs::ReadFrames::header_fault))]
-fn read_header(bytes: &[u8]) -> Result<Header, FrameFault>
-    ensures ok { IfOk result (λ header. IsHeader bytes.now header) }
+pub fn read_front(bytes: &[u8]) -> Result<Front, FrameFault>
+    ensures ok { IfOk result (λ front. IsFront bytes.now front) }
     ensures err { IfErr result (λ fault. HasFault bytes.now fault) }
 {
     if bytes.len() < LENGTH_BYTES {
@@ -121,13 +118,13 @@ fn read_header(bytes: &[u8]) -> Result<Header, FrameFault>
     if !is_place_of(kind, from.inc, &place) {
         return Err(FrameFault::Place);
     }
-    Ok(Header {
-        kind,
+    let header = Header {
         from,
         to,
+        kind,
         place,
-        end,
-    })
+    };
+    Ok(Front { header, end })
 }
 
 // The whole ledger that goes from one role to the other.
@@ -173,6 +170,39 @@ fn read_body(
     }
 }
 
+/// The packet with whose frame the bytes begin, and how many bytes that has, where this stands in front of its body. The packet takes
+/// memory for its entries once.
+pub fn read_behind(
+    alloc: Global,
+    front: &Front,
+    bytes: &[u8],
+) -> Result<(Packet, usize), FrameFault>
+    requires { IsFront bytes.now front.now }
+    ensures { Reads bytes.now result }
+{
+    let Header {
+        from,
+        to,
+        kind,
+        place,
+    } = front.header;
+    let body = &bytes[FRONT_BYTES..front.end];
+    match read_body(alloc, kind, from.role, to.role, body) {
+        Ok(body) => {
+            let packet = Packet {
+                from,
+                to,
+                kind,
+                place,
+                body,
+            };
+            Ok((packet, front.end))
+        }
+        Err(BodyFault::NotBody) => Err(FrameFault::Body),
+        Err(BodyFault::OutOfMemory) => Err(FrameFault::OutOfMemory),
+    }
+}
+
 /// The packet with whose frame the bytes begin, and how many bytes that has. What stands behind it is not looked
 /// at.
 ///
@@ -181,23 +211,8 @@ fn read_body(
 pub fn read_packet(alloc: Global, bytes: &[u8]) -> Result<(Packet, usize), FrameFault>
     ensures { Reads bytes.now result }
 {
-    let header = match read_header(bytes) {
-        Ok(header) => header,
-        Err(fault) => return Err(fault),
-    };
-    let body = &bytes[FRONT_BYTES..header.end];
-    match read_body(alloc, header.kind, header.from.role, header.to.role, body) {
-        Ok(body) => {
-            let packet = Packet {
-                from: header.from,
-                to: header.to,
-                kind: header.kind,
-                place: header.place,
-                body,
-            };
-            Ok((packet, header.end))
-        }
-        Err(BodyFault::NotBody) => Err(FrameFault::Body),
-        Err(BodyFault::OutOfMemory) => Err(FrameFault::OutOfMemory),
+    match read_front(bytes) {
+        Ok(front) => read_behind(alloc, &front, bytes),
+        Err(fault) => Err(fault),
     }
 }

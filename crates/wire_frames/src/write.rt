@@ -1,20 +1,20 @@
 //! Writing frames.
 
 ghost use Rattle.std.specs.Prelude.{◌≡◌, ◌+◌, ◌*◌, ◌≤◌, ◌++◌, length, OnOk, OnErr};
+ghost use Rattle.std.specs.List.{flat_map};
 ghost use Rattle.std.specs.Int.{to_be_bytes, w32};
 ghost use Rattle.fuxi_terms.specs.Limits.{most_body_bytes};
 ghost use Rattle.fuxi_terms.specs.TallyKeys.{greatest_grant, greatest_demand};
 ghost use Rattle.ledger_law.specs.Shapes.{IsTally};
 ghost use Rattle.party_ledgers.specs.Joins.{IsJoin};
 ghost use Rattle.party_ledgers.specs.Packets.{IsFormed};
-ghost use Rattle.wire_frames.specs.Frames.{kind_byte, role_byte, party_bytes, place_bytes, body_bytes, header_bytes, frame, HasForm, HaveRoom, IsFrame, body_length};
+ghost use Rattle.wire_frames.specs.Frames.{kind_byte, role_byte, body_bytes, header_bytes, frame, HasForm, HaveRoom, IsFrame, body_length};
 
 use crate::{FRONT_BYTES, LENGTH_BYTES, VERSION};
-use delta_channel::Place;
 use ledger_law::forms::append;
 use ledger_law::{Ledger, OutOfMemory};
 use party_ledgers::{Body, Demand, Grants, JoinLedger, Kind, Packet, RowLedger};
-use schedule_unit::{Party, Role};
+use schedule_unit::Role;
 
 fn kind_byte(kind: Kind) -> u8
     ensures { result ≡ kind_byte kind }
@@ -37,57 +37,24 @@ fn role_byte(role: Role) -> u8
     }
 }
 
-// The bytes of a party.
-fn bytes_of_party(party: &Party) -> [u8; 13]
-    ensures { result ≡ party_bytes party.now }
-{
-    let [n0, n1, n2, n3] = party.number.to_be_bytes();
-    let [i0, i1, i2, i3, i4, i5, i6, i7] = party.inc.to_be_bytes();
-    let role = role_byte(party.role);
-    [role, n0, n1, n2, n3, i0, i1, i2, i3, i4, i5, i6, i7]
-}
-
-// The bytes of a place.
-fn bytes_of_place(place: &Place) -> [u8; 16]
-    ensures { result ≡ place_bytes place.now }
-{
-    let [i0, i1, i2, i3, i4, i5, i6, i7] = place.inc.to_be_bytes();
-    let [s0, s1, s2, s3, s4, s5, s6, s7] = place.seq.to_be_bytes();
-    [
-        i0, i1, i2, i3, i4, i5, i6, i7, s0, s1, s2, s3, s4, s5, s6, s7,
-    ]
-}
-
-// What stands in front of a body: the length of what follows it, and the header. In one piece, since each piece is tested for room.
-fn front_of(packet: &Packet, length: u32) -> [u8; FRONT_BYTES]
-    ensures { result ≡ to_be_bytes w32 length ++ header_bytes packet.now }
+// What stands in front of a body: the length of what follows it, and the header. In one piece, since each piece is tested for room, and in
+// rows, since one that is a number is stored whole.
+fn front_of(packet: &Packet, length: u32) -> [[u8; 8]; FRONT_BYTES / 8]
+    ensures { flat_map (λ row. row) result ≡ to_be_bytes w32 length ++ header_bytes packet.now }
 {
     let [l0, l1, l2, l3] = length.to_be_bytes();
     let kind = kind_byte(packet.kind);
-    let [f0, f1, f2, f3, f4, f5, f6, f7, f8, f9, f10, f11, f12] = bytes_of_party(&packet.from);
-    let [t0, t1, t2, t3, t4, t5, t6, t7, t8, t9, t10, t11, t12] = bytes_of_party(&packet.to);
-    let [
-        p0,
-        p1,
-        p2,
-        p3,
-        p4,
-        p5,
-        p6,
-        p7,
-        p8,
-        p9,
-        p10,
-        p11,
-        p12,
-        p13,
-        p14,
-        p15,
-    ] = bytes_of_place(&packet.place);
+    let (from, to) = (&packet.from, &packet.to);
+    let [f0, f1, f2, f3] = from.number.to_be_bytes();
+    let [i0, i1, i2, i3, i4, i5, i6, i7] = from.inc.to_be_bytes();
+    let [t0, t1, t2, t3] = to.number.to_be_bytes();
     [
-        l0, l1, l2, l3, VERSION, kind, f0, f1, f2, f3, f4, f5, f6, f7, f8, f9, f10, f11, f12, t0,
-        t1, t2, t3, t4, t5, t6, t7, t8, t9, t10, t11, t12, p0, p1, p2, p3, p4, p5, p6, p7, p8, p9,
-        p10, p11, p12, p13, p14, p15,
+        [l0, l1, l2, l3, VERSION, kind, role_byte(from.role), f0],
+        [f1, f2, f3, i0, i1, i2, i3, i4],
+        [i5, i6, i7, role_byte(to.role), t0, t1, t2, t3],
+        to.inc.to_be_bytes(),
+        packet.place.inc.to_be_bytes(),
+        packet.place.seq.to_be_bytes(),
     ]
 }
 
@@ -185,7 +152,8 @@ pub fn write_packet(packet: &Packet, out: &mut Vec<u8>) -> Result<(), OutOfMemor
     let length = frame_length(packet);
     let start = out.len();
     out.reserve(length)?;
-    append(&front_of(packet, (length - LENGTH_BYTES) as u32), out);
+    let front = front_of(packet, (length - LENGTH_BYTES) as u32);
+    append(front.as_flattened(), out);
     match write_body(&packet.body, out) {
         Ok(()) => Ok(()),
         Err(fault) => {
