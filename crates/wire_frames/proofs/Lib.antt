@@ -3,6 +3,7 @@ pub mod Bodies
 pub mod FramesLemmas
 pub mod Parts
 pub mod Found
+pub mod HeaderFaults
 pub mod Framed
 pub mod Refused
 pub mod OneBody

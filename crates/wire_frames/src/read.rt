@@ -5,7 +5,7 @@ ghost use Rattle.std.specs.Int.{w32, w64};
 ghost use Rattle.ledger_law.specs.ReadForms.{Reads as ReadsForm};
 ghost use Rattle.party_ledgers.specs.Packets.{IsBodyOf};
 ghost use Rattle.wire_frames.specs.Frames.{body_bytes, HasForm};
-ghost use Rattle.wire_frames.specs.ReadFrames.{number_at, kind_of, role_of, party_at, HasFault, Reads};
+ghost use Rattle.wire_frames.specs.ReadFrames.{number_at, kind_of, role_of, party_at, header_fault, Reads};
 ghost use Rattle.wire_frames.specs.Fronts.{IsFront};
 
 use crate::fault::FrameFault;
@@ -86,7 +86,7 @@ fn party_at(bytes: &[u8], at: usize) -> Option<Party>
 #[tactic(auto, unfolding(crate::specs::ReadFrames::header_fault))]
 pub fn read_front(bytes: &[u8]) -> Result<Front, FrameFault>
     ensures ok { IfOk result (λ front. IsFront bytes.now front) }
-    ensures err { IfErr result (λ fault. HasFault bytes.now fault) }
+    ensures err { IfErr result (λ fault. header_fault bytes.now ≡ Some fault) }
 {
     if bytes.len() < LENGTH_BYTES {
         return Err(FrameFault::Short);
