@@ -1,5 +1,5 @@
 -- A layout in which units got places, or in which there are more units without.
-use Rattle.std.proofs.Common.{◌≡◌, ℕ, ◌+◌, ◌*◌, ◌<◌, ◌≤◌, false, List, [], None, is_some, length, get_or, refl, sym, ap, subst, ◌∙◌, arith}
+use Rattle.std.proofs.Common.{◌≡◌, ℕ, ◌+◌, ◌<◌, ◌≤◌, false, List, [], None, is_some, length, get_or, refl, sym, ap, subst, ◌∙◌, arith}
 use Rattle.std.proofs.lemmas.List.{get_or_past}
 use Rattle.std.specs.Global.{Vec}
 use Rattle.slot_pool.specs.Pools.{PoolRecord, SameSlots, value_at}
@@ -9,7 +9,7 @@ use Rattle.locality_tree.specs.declared.layout.UnitSlots.{UnitSlots}
 use Rattle.locality_tree.specs.declared.place_set.PlaceSet.{PlaceSet}
 use Rattle.locality_tree.specs.Trees.{all_units}
 use Rattle.locality_tree.specs.PlaceSets.{is_marked}
-use Rattle.locality_tree.specs.Layouts.{Places, Slots, slots_of, slots_seen, numbers_of, sets_of, with_places, with_vacant, AreKept, AreKeptIn, IsGrown, Admits}
+use Rattle.locality_tree.specs.Layouts.{Places, Slots, slots_of, slots_seen, numbers_of, sets_of, with_places, with_vacant, vacancies, AreKept, AreKeptIn, IsGrown, Admits}
 use Rattle.locality_tree.proofs.NumbersLemmas.{seen_same, seen_vacant}
 use Rattle.locality_tree.proofs.QueueLaws.{Stays}
 use Rattle.locality_tree.proofs.VacantLemmas.{kept_admitted}
@@ -19,7 +19,7 @@ module _ (stays : Stays) (old : Layout) (kept : AreKeptIn old) (first : ℕ) whe
   count = length old.queues.items
 
   pub admits : (pool : PoolRecord Node) (slots : Vec UnitSlots) (grown : List UnitSlots) (units : ℕ) → IsGrown old.slots.items grown → SameSlots old.pool pool → numbers_of slots.items ≡ with_places 0 (numbers_of grown) first count units → sets_of slots.items ≡ sets_of grown →
-      first + units ≤ length (slots_of old) → ((k : ℕ) → k < units → length (get_or (slots_of old) (first + k) []) ≡ 0) → old.pool.spare + units * count ≤ pool.spare → Admits old (record old { pool = pool; slots = slots }) first units
+      first + units ≤ length (slots_of old) → ((k : ℕ) → k < units → length (get_or (slots_of old) (first + k) []) ≡ 0) → vacancies (with_vacant (slots_of old) first count units) ≤ pool.spare → Admits old (record old { pool = pool; slots = slots }) first units
   admits pool slots grown units more same put sets long new room =
       let olds : List UnitSlots = old.slots.items in
       let marks : (n k : ℕ) → is_marked (sets_of slots.items) n k ≡ is_marked (sets_of olds) n k = λ n k. ap (λ (ss : List PlaceSet). is_marked ss n k) sets ∙ more.sets n k in
@@ -38,5 +38,6 @@ module _ (stays : Stays) (old : Layout) (kept : AreKeptIn old) (first : ℕ) whe
       }
 
   -- after a refusal
-  pub admits_none : (slots : Vec UnitSlots) (units : ℕ) → IsGrown old.slots.items slots.items → length (slots_of old) ≡ all_units → first + units ≤ all_units → Admits old (record old { slots = slots }) first 0
-  admits_none slots units more all inside = admits old.pool slots slots.items 0 more (record { values = λ s. refl; generations = λ n. refl }) refl refl (omega (arith, all, inside)) (λ k h. absurd (omega arith)) (omega arith)
+  pub admits_none : (pool : PoolRecord Node) (slots : Vec UnitSlots) (units : ℕ) → IsGrown old.slots.items slots.items → SameSlots old.pool pool → old.pool.spare ≤ pool.spare → length (slots_of old) ≡ all_units → first + units ≤ all_units → Admits old (record old { pool = pool; slots = slots }) first 0
+  admits_none pool slots units more same room all inside =
+      admits pool slots slots.items 0 more same refl refl (omega (arith, all, inside)) (λ k h. absurd (omega arith)) (let less = kept.room in omega (arith, less, room))

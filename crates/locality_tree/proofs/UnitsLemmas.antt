@@ -20,6 +20,10 @@ module _ (units : List UnitSlots) (n : ℕ) where
   beyond : length units ≤ n → get_or (numbers_of units) n [] ≡ []
   beyond h = get_or-append_right (map numbers_in units) (replicate (all_units - length units) []) (length units) n [] (length-map units numbers_in) h ∙ none_in (all_units - length units) (n - length units)
 
+  -- a unit that is not listed has no place
+  pub none_beyond : length units ≤ n → length (get_or (numbers_of units) n []) ≡ 0
+  none_beyond h = ap length (beyond h)
+
   -- a unit that has a place is one of the list
   pub unit_listed : (k : ℕ) → k < length (get_or (numbers_of units) n []) → n < length units
   unit_listed k h = elim (cases_lt n (length units)) as (λ _. n < length units) [

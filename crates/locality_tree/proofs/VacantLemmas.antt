@@ -1,11 +1,11 @@
 -- Units that get places without a slot, and a layout without a unit.
-use Rattle.std.proofs.Common.{◌≡◌, ◌⊎◌, ℕ, ◌+◌, ◌*◌, ◌<◌, ◌≤◌, zero, suc, false, cond, List, [], ◌∷◌, ◌++◌, Option, None, is_some, length, get_or, replicate, count_by, refl, sym, ap, ◌∙◌, inl, inr, arith}
+use Rattle.std.proofs.Common.{◌≡◌, ◌⊎◌, ℕ, ◌+◌, ◌*◌, ◌<◌, ◌≤◌, zero, suc, false, List, [], ◌∷◌, ◌++◌, Option, None, is_some, length, get_or, replicate, count_by, refl, sym, ap, ◌∙◌, inl, inr, arith}
 use Rattle.std.proofs.lemmas.Bool.{cases_eq}
 use Rattle.std.specs.List.{AllByRecursion}
 use Rattle.std.specs.Option.{is_none}
 use Rattle.std.specs.Global.{Vec}
 use Rattle.std.proofs.lemmas.List.{get_or-set_same, get_or-set_other, get_or_past, length-set, length-replicate, length_push, map_push, same_from_push, replicate_more}
-use Rattle.std.proofs.lemmas.List.Sums.{sum_by-cons, sum_by-set}
+use Rattle.std.proofs.lemmas.List.Sums.{sum_by-cons, count_by-le-length}
 use Rattle.slot_pool.specs.declared.pool.Slot.{Slot}
 use Rattle.wait_queue.specs.declared.node.Node.{Node}
 use Rattle.wait_queue.specs.declared.queue.Queue.{Queue}
@@ -20,10 +20,6 @@ pub none_at : (places k : ℕ) → get_or {A = Option Slot} (replicate places No
 none_at zero k = refl
 none_at (suc places) zero = refl
 none_at (suc places) (suc k) = none_at places k
-
-all_vacant : (places : ℕ) → count_by {X = Option Slot} is_none (replicate places None) ≡ places
-all_vacant zero = refl
-all_vacant (suc places) = let r = all_vacant places in let s = sum_by-cons (λ (o : Option Slot). cond {A = ℕ} (is_none o) 1 0) None (replicate places None) in omega (arith, r, s)
 
 pub vacant_count : (slots : Slots) (first places n : ℕ) → length (with_vacant slots first places n) ≡ length slots
 vacant_count slots first places zero = refl
@@ -61,24 +57,38 @@ module _ (slots : Slots) (first places : ℕ) where
         elim (vacant_widths n (omega arith) m) as (λ _. (length (get_or (with_vacant slots first places (suc n)) m []) ≡ length (get_or slots m [])) ⊎ (length (get_or (with_vacant slots first places (suc n)) m []) ≡ places)) [ inl h ↦ inl (other ∙ h) | inr h ↦ inr (other ∙ h) ]
   ]
 
-  pub vacant_room : (n : ℕ) → first + n ≤ length slots → vacancies (with_vacant slots first places n) ≤ vacancies slots + n * places
-  vacant_room zero long = omega arith
-  vacant_room (suc n) long =
-      let rest = vacant_room n (omega arith) in
-      let count = vacant_count slots first places n in
-      let within : first + n < length (with_vacant slots first places n) = omega (arith, count) in
-      let outer = sum_by-set (λ (r : List (Option Slot)). count_by is_none r) (with_vacant slots first places n) (first + n) (replicate places None) [] within in
-      let inner = all_vacant places in
-      let more : suc n * places ≡ n * places + places = omega arith in
-      omega (arith, rest, outer, inner, more)
+-- where so many units at most have places, no more than theirs are vacant
+pub vacant_most : (slots : Slots) (count places : ℕ) → ((n : ℕ) → length (get_or slots n []) ≤ places) → ((n : ℕ) → count ≤ n → length (get_or slots n []) ≡ 0) → vacancies slots ≤ count * places
+vacant_most [] count places few none = omega arith
+vacant_most (r ∷ rs) zero places few none =
+    let rest = vacant_most rs zero places (λ n. few (suc n)) (λ n _. none (suc n) (omega arith)) in
+    let s = sum_by-cons (λ (u : List (Option Slot)). count_by is_none u) r rs in
+    let own = count_by-le-length is_none r in
+    let z = none zero (omega arith) in
+    omega (arith, rest, s, own, z)
+vacant_most (r ∷ rs) (suc count) places few none =
+    let rest = vacant_most rs count places (λ n. few (suc n)) (λ n h. none (suc n) (omega (arith, h))) in
+    let s = sum_by-cons (λ (u : List (Option Slot)). count_by is_none u) r rs in
+    let own = count_by-le-length is_none r in
+    let w = few zero in
+    let more : suc count * places ≡ count * places + places = omega arith in
+    omega (arith, rest, s, own, w, more)
+
+-- as many as are listed, where the units that get places are
+pub vacant_listed : (slots : Slots) (first places units count : ℕ) → ((n : ℕ) → (length (get_or slots n []) ≡ 0) ⊎ (length (get_or slots n []) ≡ places)) → ((n : ℕ) → count ≤ n → length (get_or slots n []) ≡ 0) → first + units ≤ length slots → first + units ≤ count → vacancies (with_vacant slots first places units) ≤ count * places
+vacant_listed slots first places units count full none long listed =
+    vacant_most (with_vacant slots first places units) count places
+    (λ n. elim (vacant_widths slots first places units long n) as (λ _. length (get_or (with_vacant slots first places units) n []) ≤ places) [
+      | inl h ↦ elim (full n) as (λ _. length (get_or (with_vacant slots first places units) n []) ≤ places) [ inl g ↦ omega (arith, h, g) | inr g ↦ omega (arith, h, g) ]
+      | inr h ↦ omega (arith, h)
+    ])
+    (λ n h. ap length (vacant_later slots first places units n (omega (arith, h, listed))) ∙ none n h)
 
 -- the layout of an admitted job
 pub kept_admitted : Stays → (at after : Slot → Option Node) (spare room : ℕ) (queues : List Queue) (slots : Slots) (sets news : List PlaceSet) (first units : ℕ) → AreKept at spare queues slots sets → ((n k : ℕ) → is_marked news n k ≡ is_marked sets n k) → ((s : Slot) → after s ≡ at s) → first + units ≤ length slots →
-    ((k : ℕ) → k < units → length (get_or slots (first + k) []) ≡ 0) → spare + units * length queues ≤ room → AreKept after room queues (with_vacant slots first (length queues) units) news
+    ((k : ℕ) → k < units → length (get_or slots (first + k) []) ≡ 0) → vacancies (with_vacant slots first (length queues) units) ≤ room → AreKept after room queues (with_vacant slots first (length queues) units) news
 kept_admitted stays at after spare room queues slots sets news first units kept marks same long new more =
     let reads = vacant_reads slots first (length queues) units long new in
-    let need = vacant_room slots first (length queues) units long in
-    let less = kept.room in
     record {
       lists = kept.lists;
       queues_stand = λ p d h.
@@ -91,7 +101,7 @@ kept_admitted stays at after spare room queues slots sets news first units kept 
             all = λ n s g. q.all n s (sym (reads n p) ∙ g);
           };
       apart = kept.apart;
-      room = omega (arith, need, less, more);
+      room = more;
       full = λ n. elim (vacant_widths slots first (length queues) units long n) as (λ _. (length (get_or (with_vacant slots first (length queues) units) n []) ≡ 0) ⊎ (length (get_or (with_vacant slots first (length queues) units) n []) ≡ length queues)) [
         | inl h ↦ elim (kept.full n) as (λ _. (length (get_or (with_vacant slots first (length queues) units) n []) ≡ 0) ⊎ (length (get_or (with_vacant slots first (length queues) units) n []) ≡ length queues)) [ inl g ↦ inl (h ∙ g) | inr g ↦ inr (h ∙ g) ]
         | inr h ↦ inr h

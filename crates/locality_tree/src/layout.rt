@@ -3,15 +3,20 @@
 ghost use Rattle.std.specs.Prelude.{◌≡◌, ℕ, ◌+◌, ◌*◌, ◌^◌, ◌<◌, ◌≤◌, [], length, replicate, None, Some, is_some, IsSome, true, false, IfOk, OnOk, OnErr};
 ghost use Rattle.std.specs.List.{AllByRecursion};
 ghost use Rattle.std.proofs.Common.{get_or};
+ghost use Rattle.slot_pool.specs.Pools.{SameSlots};
 ghost use Rattle.locality_tree.specs.Trees.{all_units};
 ghost use Rattle.locality_tree.specs.Layouts.{slots_of, rows_of, numbers_of, sets_of, number_in, slot_in, with_slot, with_places, number_of, HasNumber, IsEmptyQueue, AreKeptIn, EntryFitsIn, TurnedIn, LeftIn, Admits, IsNoted, IsGrown};
 
 use crate::place_set::PlaceSet;
 use fuxi_terms::OutOfMemory;
-use fuxi_terms::limits::MOST_UNITS;
+use fuxi_terms::limits::{MOST_RACKS, MOST_UNITS};
 use slot_pool::{Pool, Slot};
 use std::alloc::Global;
+use std::cmp::max;
 use wait_queue::{Entry, Node, Queue, law};
+
+/// Where room is wanted, it is made for so many nodes more for each machine, so that small clusters ask for little.
+const NODES_AT_ONCE: usize = 256;
 
 /// Where one unit stands. A number counts only where the place is in the set; there the slot is live, so the
 /// pool knows its generation.
@@ -105,6 +110,19 @@ fn grow(slots: &mut Vec<UnitSlots>, alloc: Global, count: usize) -> Result<(), O
             places: PlaceSet::new(),
         })?;
     }
+    Ok(())
+}
+
+/// So many nodes can be put in. Where there is less room it is made for as many as come soon.
+fn make_room(pool: &mut Pool<Node>, need: usize, soon: usize) -> Result<(), OutOfMemory>
+    ensures room { OnOk result (need ≤ pool.new.spare) }
+    ensures no_less { pool.old.spare ≤ pool.new.spare }
+    ensures same { SameSlots pool.old pool.new }
+{
+    if need <= pool.spare() {
+        return Ok(());
+    }
+    pool.reserve(max(need, soon))?;
     Ok(())
 }
 
@@ -250,7 +268,6 @@ impl Layout {
         requires kept { AreKeptIn self.old }
         requires all { length (slots_of self.old) ≡ all_units }
         requires inside { first + units ≤ all_units }
-        requires few { units * length self.old.queues.items < 2 ^ 64 }
         requires new { (k : ℕ) → k < units → length (get_or (slots_of self.old) (first + k) []) ≡ 0 }
         ensures ok { OnOk result (Admits self.old self.new first units) }
         ensures err { OnErr result (Admits self.old self.new first 0) }
@@ -259,11 +276,9 @@ impl Layout {
         grow(&mut self.slots, alloc, first + units)?;
         let places = self.queues.len();
         let rows = vacant_units(alloc, units, places)?;
-        let room = match self.pool.spare().checked_add(units * places) {
-            Some(room) => room,
-            None => return Err(OutOfMemory),
-        };
-        self.pool.reserve(room)?;
+        let need = self.slots.len() * places;
+        let machines = places.saturating_sub(MOST_RACKS as usize + 1);
+        make_room(&mut self.pool, need, need + NODES_AT_ONCE * machines)?;
         put_numbers(&mut self.slots, first, rows);
         Ok(())
     }
