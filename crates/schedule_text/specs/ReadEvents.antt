@@ -21,7 +21,7 @@ use Rattle.schedule_text.specs.declared.form.Place.{Place}
 use Rattle.schedule_text.specs.declared.form.Place.TheVariants.{Count}
 use Rattle.schedule_text.specs.Words.{words_of}
 use Rattle.schedule_text.specs.LineForms.{Shape, shape_of, heads, halt_shape, writing_heads, is_within}
-use Rattle.schedule_text.specs.Halting.{halting}
+use Rattle.schedule_text.specs.Halting.{anywhere, halting}
 use Rattle.schedule_text.specs.LineHeads.{head_of as head_in}
 use Rattle.schedule_text.specs.PlaceNumbers.{number_at as number_in, numbers_at as numbers_in}
 
@@ -168,3 +168,8 @@ IsFault outcome WrongCount = outcome ≡ Err WrongCount
 IsFault outcome (BadNumber place) = outcome ≡ Err (BadNumber place)
 IsFault outcome (Range place) = outcome ≡ Err (Range place)
 IsFault outcome OutOfMemory = Unit {0}
+
+-- so the words of a line are read
+abbrev pub IsRead : List (List ℕ) → Result Event LineFault → Type 0
+IsRead words (Ok e) = event_of_words words ≡ Ok (anywhere e)
+IsRead words (Err fault) = IsFault (event_of_words words) fault

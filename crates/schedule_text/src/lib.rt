@@ -12,6 +12,7 @@ mod output;
 mod read;
 mod refusal;
 mod tail;
+mod usual;
 mod word;
 mod write;
 

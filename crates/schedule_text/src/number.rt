@@ -49,7 +49,7 @@ fn are_paired(a: &[u8], b: &[u8]) -> bool
 }
 
 // The number at a place of the line, with the number before it.
-fn number_at<P: NumberPlace>(
+pub fn number_at<P: NumberPlace>(
     kind: P,
     place: usize,
     before: u64,

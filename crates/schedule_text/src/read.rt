@@ -1,10 +1,10 @@
 //! Event lines are read.
 
-ghost use Rattle.std.specs.Prelude.{◌≡◌, true, false, ◌+◌, ◌^◌, ◌<◌, ◌≤◌, ◌∷◌, [], nat_eq, slice_index, slice_index_or, IfOk, IfErr, Ok, Err, map, length};
+ghost use Rattle.std.specs.Prelude.{◌≡◌, true, false, ◌+◌, ◌^◌, ◌<◌, ◌≤◌, ◌∷◌, [], nat_eq, slice_index, slice_index_or, IfOk, IfErr, Ok, Err, map, length, codes};
 ghost use Rattle.std.specs.List.{list_all};
 ghost use Rattle.schedule_text.specs.declared.form.Place.TheVariants.{Count};
 ghost use Rattle.schedule_text.specs.LineForms.{heads, halt_shape, shape_of, as_shape};
-ghost use Rattle.schedule_text.specs.ReadEvents.{begins, has_count, own_count, is_unit, units_of, head_of, number_at, numbers_at, counts_at, most_at, ask_at, asks_at, asks_of, event_behind, stop_of, halt_of, event_of_words, event_of, front, IsFault};
+ghost use Rattle.schedule_text.specs.ReadEvents.{begins, has_count, own_count, is_unit, units_of, head_of, number_at, numbers_at, counts_at, most_at, ask_at, asks_at, asks_of, event_behind, stop_of, halt_of, event_of_words, event_of, front, IsFault, IsRead};
 ghost use Rattle.schedule_text.specs.Halting.{anywhere};
 ghost use Rattle.schedule_text.specs.Words.{words_of};
 ghost use Rattle.schedule_text.specs.Writing.{IsLineEvent};
@@ -14,6 +14,7 @@ use crate::form::{Form, HEADS, Head, Place, WRITING_HEADS, form_of, halt_form, h
 use crate::head::{LineHead, head_of};
 use crate::make::make_event;
 use crate::number::{begins_with, numbers_at};
+use crate::usual::{deliver_of, deliver_range_of, near_of, turn_agent_of, turn_app_of, want_of};
 use crate::word::{few_words, words_of};
 use fuxi_terms::OutOfMemory;
 use fuxi_terms::limits::GREATEST_COUNT;
@@ -38,31 +39,57 @@ fn event_of(alloc: Global, line: &[u8]) -> Result<Event, LineFault>
     ensures fault { IfErr result (IsFault (event_of line.now)) }
 {
     let mut few: [&[u8]; 8] = [&[]; 8];
-    let mut many: Vec<&[u8]> = Vec::new(alloc);
-    let words = words_in(alloc, line, &mut few, &mut many)?;
-    event_in(alloc, words)
-}
-
-// The words of a line, in these places where they are few, and else in the list.
-fn words_in<'a, 'b>(
-    alloc: Global,
-    line: &'a [u8],
-    few: &'b mut [&'a [u8]; 8],
-    many: &'b mut Vec<&'a [u8]>,
-) -> Result<&'b [&'a [u8]], OutOfMemory>
-    ensures words { IfOk result (λ words. map (λ w. w.now) words.now ≡ words_of line.now) }
-    ensures range { IfOk result (λ words. length words.now < 2 ^ 60) }
-{
-    if let Some(count) = few_words(line, few) {
-        let (words, _) = few.as_slice().split_at(count);
-        return Ok(words);
+    match few_words(line, &mut few) {
+        Some(count) => {
+            let (words, _) = few.as_slice().split_at(count);
+            event_in(alloc, words)
+        }
+        None => event_of_many(alloc, line),
     }
-    *many = words_of(alloc, line)?;
-    Ok(many.as_slice())
 }
 
-// The event of the words of a line.
+// The event of a line of many words.
+fn event_of_many(alloc: Global, line: &[u8]) -> Result<Event, LineFault>
+    ensures ok { IfOk result (λ event. event_of line.now ≡ Ok (anywhere event)) }
+    ensures fault { IfErr result (IsFault (event_of line.now)) }
+{
+    let words = words_of(alloc, line)?;
+    event_by_table(alloc, &words)
+}
+
+// The event of the words of a line. Those of the lines that stand most in a schedule need no look at the table.
 fn event_in(alloc: Global, words: &[&[u8]]) -> Result<Event, LineFault>
+    requires { length words.now < 2 ^ 60 }
+    ensures { IsRead (map (λ w. w.now) words.now) result }
+{
+    match words {
+        [word, packet] if *word == b"deliver".as_slice() => deliver_of(packet),
+        [word, first, last] if *word == b"deliver".as_slice() => deliver_range_of(first, last),
+        [word, app, unit, count] if *word == b"want".as_slice() => want_of(app, unit, count),
+        [word, app, unit, machine, count] if *word == b"near".as_slice() => {
+            near_of(app, unit, machine, count)
+        }
+        [word, role, number] if *word == b"turn".as_slice() => turn_in(alloc, words, role, number),
+        _ => event_by_table(alloc, words),
+    }
+}
+
+// The event of a turn of this party.
+fn turn_in(alloc: Global, words: &[&[u8]], role: &[u8], number: &[u8]) -> Result<Event, LineFault>
+    requires { map (λ w. w.now) words.now ≡ codes "turn" ∷ role.now ∷ number.now ∷ [] }
+    ensures { IsRead (map (λ w. w.now) words.now) result }
+{
+    if role == b"agent".as_slice() {
+        return turn_agent_of(number);
+    }
+    if role == b"app".as_slice() {
+        return turn_app_of(number);
+    }
+    event_by_table(alloc, words)
+}
+
+// The event of the words of a line, by the table.
+fn event_by_table(alloc: Global, words: &[&[u8]]) -> Result<Event, LineFault>
     requires { length words.now < 2 ^ 60 }
     ensures ok { IfOk result (λ event. event_of_words (map (λ w. w.now) words.now) ≡ Ok (anywhere event)) }
     ensures fault { IfErr result (IsFault (event_of_words (map (λ w. w.now) words.now))) }

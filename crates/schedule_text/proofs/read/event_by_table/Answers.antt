@@ -6,7 +6,7 @@ use Rattle.schedule_text.specs.Halting.{anywhere}
 use Rattle.schedule_text.specs.ReadEvents.{begins, IsFault}
 use Rattle.schedule_text.proofs.Halts.{line_begins}
 use Rattle.schedule_text.proofs.Walks.{fault_is}
-use Rattle.schedule_text.proofs.read.event_in.Goals as goal
+use Rattle.schedule_text.proofs.read.event_by_table.Goals as goal
 
 -- words as they are read
 abbrev seen : List (Bor (List ℕ)) → List (List ℕ)
