@@ -37,7 +37,7 @@ differs k q cs below found = elim (eq_by_cmp row_cmp q k) as (λ b. eq_by_cmp ro
   | false ↦ λ t. refl
 ] refl
 
-made_within : (k : RowKey) (kept : ℕ) (change : ℤ) (n : ℕ) → moved_within row_below row_too_great greatest_row k kept change ≡ Ok n → n ≤ greatest_row k
+pub made_within : (k : RowKey) (kept : ℕ) (change : ℤ) (n : ℕ) → moved_within row_below row_too_great greatest_row k kept change ≡ Ok n → n ≤ greatest_row k
 made_within k kept change n is = by (moved kept change) is
   where
     at : (m : ℕ) (b : Bool) → nat_lt (greatest_row k) m ≡ b → cond b (Err (row_too_great k)) (Ok m) ≡ Ok n → n ≤ greatest_row k
@@ -68,19 +68,19 @@ pub row_start : (es : Entries) (cs : List (RowKey × ℤ)) → IsRow es → T (i
 row_start es cs row s = record { mid = es; row = row; long = refl; rising = s; made = refl; untouched = λ q _. refl }
 
 module _ (es : Entries) (cs : List (RowKey × ℤ)) (i len : ℕ) (c : RowKey × ℤ) (c_is : c ≡ get_or cs i c) (t : IsTestedTo es cs i len) (lt : i < length cs) (kept : ℕ) (kept_is : kept ≡ count row_cmp es c.0) where
-  here : drop i cs ≡ c ∷ drop (i + 1) cs
+  pub here : drop i cs ≡ c ∷ drop (i + 1) cs
   here = drop-cons cs i c lt ∙ ap (λ n. get_or cs i c ∷ drop n cs) (sym (add-one i)) ∙ ap (λ x. x ∷ drop (i + 1) cs) (sym c_is)
 
-  rest_rises : T (below_all row_cmp c.0 (drop (i + 1) cs)) × T (is_sorted row_cmp (drop (i + 1) cs))
+  pub rest_rises : T (below_all row_cmp c.0 (drop (i + 1) cs)) × T (is_sorted row_cmp (drop (i + 1) cs))
   rest_rises = both_true _ _ (subst (λ l. T (is_sorted row_cmp l)) here t.rising)
 
-  kept_mid : count row_cmp t.mid c.0 ≡ kept
+  pub kept_mid : count row_cmp t.mid c.0 ≡ kept
   kept_mid =
       let first : is_some (find row_cmp c.0 (drop i cs)) ≡ true = ap (λ l. is_some (find row_cmp c.0 l)) here ∙ ap (λ r. is_some (cond (is_eq r) (Some c.1) (find row_cmp c.0 (drop (i + 1) cs)))) (tied_itself row_key_total c.0) in
       t.untouched c.0 first ∙ sym kept_is
 
   -- what the change makes of the row so far
-  patched_here : (r : Result ℕ LedgerFault) → moved_within row_below row_too_great greatest_row c.0 kept c.1 ≡ r
+  pub patched_here : (r : Result ℕ LedgerFault) → moved_within row_below row_too_great greatest_row c.0 kept c.1 ≡ r
       → patched_row es cs ≡ then_do (then_do (then_do r (λ n. Ok (set_count row_cmp t.mid c.0 n))) (within_row c.0)) (λ fs. patched_row fs (drop (i + 1) cs))
   patched_here r is =
       let k : RowKey = c.0 in
@@ -94,7 +94,7 @@ module _ (es : Entries) (cs : List (RowKey × ℤ)) (i len : ℕ) (c : RowKey ×
   row_refused f is = patched_here (Err f) (sym is)
 
   module _ (n after : ℕ) (is : Ok n ≡ moved_within row_below row_too_great greatest_row c.0 kept c.1) (len_is : after + cond (nat_eq kept 0) 0 1 ≡ len + cond (nat_eq n 0) 0 1) where
-    after_is : length (set_count row_cmp t.mid c.0 n) ≡ after
+    pub after_is : length (set_count row_cmp t.mid c.0 n) ≡ after
     after_is =
         let by_count : length (set_count row_cmp t.mid c.0 n) + cond (nat_eq kept 0) 0 1 ≡ length t.mid + cond (nat_eq n 0) 0 1 = subst (λ m. length (set_count row_cmp t.mid c.0 n) + cond (nat_eq m 0) 0 1 ≡ length t.mid + cond (nat_eq n 0) 0 1) kept_mid (length-set_count row_key_total greatest_row t.mid c.0 n t.row.counts) in
         omega (arith, by_count, len_is, t.long)
@@ -104,7 +104,7 @@ module _ (es : Entries) (cs : List (RowKey × ℤ)) (i len : ℕ) (c : RowKey ×
         let test : nat_lt most_entries (length (set_count row_cmp t.mid c.0 n)) ≡ true = let e = after_is in grind (arith, nat_tests) in
         patched_here (Ok n) (sym is) ∙ ap (λ b. then_do (cond b (Err (row_too_great c.0)) (Ok (set_count row_cmp t.mid c.0 n))) (λ fs. patched_row fs (drop (i + 1) cs))) test
 
-    pub row_more : after ≤ most_entries → IsTestedTo es cs (i + 1) after
+    abbrev pub row_more : after ≤ most_entries → IsTestedTo es cs (i + 1) after
     row_more few =
         let k : RowKey = c.0 in
         let test : nat_lt most_entries (length (set_count row_cmp t.mid c.0 n)) ≡ false = let e = after_is in grind (arith, nat_tests) in
@@ -123,7 +123,7 @@ module _ (es : Entries) (cs : List (RowKey × ℤ)) (i len : ℕ) (c : RowKey ×
 pub row_passes : (es : Entries) (cs : List (RowKey × ℤ)) (i len : ℕ) → length cs ≤ i → IsTestedTo es cs i len → IsOk (patched_row es cs)
 row_passes es cs i len le t = subst (λ r. IsOk r) (sym (ap (patched_row t.mid) (drop_all i cs le)) ∙ t.made) refl
 
-greatest_small : (k : RowKey) → greatest_row k ≤ 100000
+pub greatest_small : (k : RowKey) → greatest_row k ≤ 100000
 greatest_small k = by (is_row_key k)
   where
     by : (b : Bool) → cond b 100000 0 ≤ 100000

@@ -1,6 +1,6 @@
 //! Packets: what one party tells another, with its content.
 
-ghost use Rattle.std.specs.Prelude.{◌≡◌, ◌↔◌, ◌++◌, ◌∷◌, [], IsTrue, OnOk, OnErr};
+ghost use Rattle.std.specs.Prelude.{◌≡◌, ◌+◌, ◌≤◌, ◌↔◌, ◌++◌, ◌∷◌, [], IsTrue, OnOk, OnErr, vec_len, vec_capacity};
 ghost use Rattle.party_ledgers.specs.Packets.{IsFormed, IsBodyOf, are_parties, is_place_of, is_bare, is_full, is_delta, to_agent, to_app};
 
 use crate::join::JoinLedger;
@@ -152,6 +152,22 @@ impl Packet {
     }
 }
 
+// Room for so many packets more. A list that grows has room for four times as many as it has, since one turn of a
+// master may have hundreds.
+fn make_room(packets: &mut Vec<Packet>, additional: usize) -> Result<(), OutOfMemory>
+    ensures items { packets.new.items ≡ packets.old.items }
+    ensures room { OnOk result (vec_len packets.new + additional ≤ vec_capacity packets.new) }
+{
+    let len = packets.len();
+    if additional <= packets.capacity() - len {
+        return Ok(());
+    }
+    match packets.reserve(additional.max(len.saturating_mul(3))) {
+        Ok(()) => Ok(()),
+        Err(_) => Err(OutOfMemory),
+    }
+}
+
 /// Packets in order, as one turn of a party sends them.
 #[derive(Drop)]
 pub struct Packets {
@@ -177,15 +193,24 @@ impl Packets {
         }
     }
 
+    /// Room for so many packets more. The packets stay as they are.
+    pub fn reserve(&mut self, additional: usize) -> Result<(), OutOfMemory>
+        ensures { self.new ≡ self.old }
+    {
+        make_room(&mut self.packets, additional)
+    }
+
     /// One packet more, behind the others. Want of memory leaves them as they were.
     pub fn push(&mut self, packet: Packet) -> Result<(), OutOfMemory>
         ensures ok { OnOk result (self.new ≡ self.old ++ packet ∷ []) }
         ensures err { OnErr result (self.new ≡ self.old) }
     {
-        match self.packets.push(packet) {
-            Ok(()) => Ok(()),
-            Err(_) => Err(OutOfMemory),
+        match make_room(&mut self.packets, 1) {
+            Ok(()) => {}
+            Err(fault) => return Err(fault),
         }
+        self.packets.push_reserved(packet);
+        Ok(())
     }
 
     /// The packets.

@@ -60,7 +60,7 @@ fn pair_code(key: &RowKey) -> u64
 }
 
 // The name of a key in a fault.
-fn fault_key(key: &RowKey) -> Key
+pub(crate) fn fault_key(key: &RowKey) -> Key
     ensures { result ≡ fault_key key.now }
 {
     Key {
@@ -98,7 +98,7 @@ pub(crate) fn greatest(key: &RowKey) -> u64
 }
 
 // What a change makes of the number at its key, which is one that a row may have.
-fn moved_within(key: &RowKey, kept: u64, change: i64) -> Result<u64, LedgerFault>
+pub(crate) fn moved_within(key: &RowKey, kept: u64, change: i64) -> Result<u64, LedgerFault>
     requires kept { kept < 2 ^ 62 }
     requires key { IsTrue (is_row_key key.now) }
     ensures { result ≡ moved_within row_below row_too_great greatest_row key.now kept change }
@@ -119,7 +119,7 @@ fn moved_within(key: &RowKey, kept: u64, change: i64) -> Result<u64, LedgerFault
 }
 
 // How many entries there are after the number of a key was changed.
-fn entries_after(len: usize, kept: u64, n: u64) -> usize
+pub(crate) fn entries_after(len: usize, kept: u64, n: u64) -> usize
     requires room { len < 2 ^ 32 }
     requires some { 0 < kept → 0 < len }
     ensures { result + cond (nat_eq kept 0) 0 1 ≡ len + cond (nat_eq n 0) 0 1 }
@@ -133,10 +133,7 @@ fn entries_after(len: usize, kept: u64, n: u64) -> usize
 }
 
 // Whether each of the changes can be made. Their keys differ, so each is tested on the entries as they are.
-pub(crate) fn test_changes(
-    entries: &[(RowKey, u64)],
-    changes: &[(RowKey, i64)],
-) -> Result<(), LedgerFault>
+fn test_changes(entries: &[(RowKey, u64)], changes: &[(RowKey, i64)]) -> Result<(), LedgerFault>
     requires row { IsRow entries.now }
     requires changes { AreRowChanges changes.now }
     ensures ok { OnOk result (IsOk (patched_row entries.now changes.now)) }

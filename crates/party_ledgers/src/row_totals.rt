@@ -1,17 +1,16 @@
 //! What the row that a change makes takes in all, without that row.
 
-ghost use Rattle.std.specs.Prelude.{◌≡◌, ◌-◌, ◌<◌, ◌≤◌, ◌^◌, T, IsOk, IsTrue, List, ℕ, Ok};
+ghost use Rattle.std.specs.Prelude.{◌≡◌, ◌-◌, ◌<◌, ◌≤◌, ◌^◌, IsTrue};
 ghost use Rattle.std.specs.List.{All};
-ghost use Rattle.std.specs.FinMap.Entries.{is_sorted};
-ghost use Rattle.fuxi_terms.specs.Keys.{row_cmp};
 ghost use Rattle.fuxi_terms.specs.Rows.{IsRow, AreRowChanges, patched_row, row_total};
 ghost use Rattle.fuxi_terms.specs.Vectors.{fits, plus, minus, times};
 ghost use Rattle.fuxi_terms.specs.Limits.{greatest_count};
 ghost use Rattle.party_ledgers.specs.Weighing.{TotalsAfter, total_moved};
 
-use crate::row::{RowKey, test_changes};
+use crate::row::{RowKey, entries_after, fault_key, moved_within};
+use fuxi_terms::limits::MOST_ENTRIES;
 use ledger_law::LedgerFault;
-use ledger_law::entries::{count_of, moved};
+use ledger_law::entries::count_of;
 use res_vector::{Res, Sum, add, times};
 
 // The total without a part of it, place by place.
@@ -42,27 +41,8 @@ fn total_moved(total: &Sum, size: &[u64; 8], before: u64, after: u64) -> Sum
     }
 }
 
-// The total of the row that changes make which can be made, from that of the row as it is. Their keys differ, so
-// each is made on the entries as they are.
-fn total_with(entries: &[(RowKey, u64)], total: Sum, changes: &[(RowKey, i64)]) -> Sum
-    requires row { IsRow entries.now }
-    requires sorted { T (is_sorted row_cmp changes.now) }
-    requires can { IsOk (patched_row entries.now changes.now) }
-    requires total { total.q ≡ row_total entries.now }
-    ensures { (row : List _) → patched_row entries.now changes.now ≡ Ok row → result.q ≡ row_total row }
-{
-    let mut total = total;
-    for (key, change) in changes {
-        let before = count_of(entries, key);
-        match moved(before, *change) {
-            Some(after) => total = total_moved(&total, &key.size, before, after),
-            None => unreachable!(),
-        }
-    }
-    total
-}
-
-// The total of the row that changes make, or why they make none.
+// The total of the row that changes make, from that of the row as it is, or why they make none. Their keys differ, so
+// each is tested and made on the entries as they are.
 pub(crate) fn total_after(
     entries: &[(RowKey, u64)],
     total: &Sum,
@@ -73,9 +53,18 @@ pub(crate) fn total_after(
     requires total { total.now.q ≡ row_total entries.now }
     ensures { TotalsAfter (patched_row entries.now changes.now) result }
 {
-    match test_changes(entries, changes) {
-        Ok(()) => {}
-        Err(fault) => return Err(fault),
+    let mut total = *total;
+    let mut len = entries.len();
+    for (key, change) in changes {
+        let kept = count_of(entries, key);
+        let n = moved_within(key, kept, *change)?;
+        len = entries_after(len, kept, n);
+        if len > MOST_ENTRIES {
+            return Err(LedgerFault::TooGreat {
+                key: fault_key(key),
+            });
+        }
+        total = total_moved(&total, &key.size, kept, n);
     }
-    Ok(total_with(entries, *total, changes))
+    Ok(total)
 }
