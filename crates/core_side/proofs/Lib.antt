@@ -1,3 +1,4 @@
 pub mod CoreSidesLemmas
 pub mod HeardAlike
+pub mod TurnMarks
 pub mod TurnsAlikeLemmas

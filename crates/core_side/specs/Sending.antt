@@ -2,8 +2,8 @@
 use Rattle.std.specs.Prelude.{◌≡◌, ℕ, ◌++◌, List, map, Result}
 use Rattle.std.specs.List.{AllByRecursion}
 use Rattle.fuxi_terms.specs.declared.answers.LedgerFault.{LedgerFault}
-use Rattle.delta_channel.specs.Standing.{Sending, KeepsLatest}
-use Rattle.full_sync.specs.Turns.{Endpoint}
+use Rattle.delta_channel.specs.Standing.{Sending, KeepsLatest, StandsFor}
+use Rattle.full_sync.specs.Turns.{Endpoint, Brings, IsNoteOf, mark_of, turn_of}
 use Rattle.full_sync.specs.declared.duplex.Note.{Note}
 use Rattle.full_sync.specs.declared.duplex.Note.TheVariants.{Delta, Full, Ack}
 use Rattle.schedule_unit.specs.declared.party.Party.{Party}
@@ -29,6 +29,14 @@ module _ {V D : Type 0} (whole : V → Body) (change : D → Body) (from to : Pa
   packet_for (Full n ledger) = record { from = from; to = to; kind = IsFull; place = record { inc = from.inc; seq = n }; body = whole ledger }
   packet_for (Delta n d) = record { from = from; to = to; kind = IsDelta; place = record { inc = from.inc; seq = n }; body = change d }
   packet_for (Ack place) = record { from = from; to = to; kind = IsAck; place = place; body = Nothing }
+
+-- the packets of the notes of a turn were appended
+pub record AppendsTurn {V D W : Type 0} (nothing : V) (patched : V → D → Result V LedgerFault) (whole : V → Body) (change : D → Body) (from to : Party) (d : Endpoint V D W) (before after : List Packet) : Type 0 where
+  pub notes : List (Note V D)
+  pub marks : map mark_of notes ≡ turn_of d.outgoing.last d.acked d.incoming.place
+  pub sends : AllByRecursion (IsNoteOf d.outgoing) notes
+  pub brings : (history : List V) → StandsFor nothing patched d.outgoing history → AllByRecursion (Brings patched history) notes
+  pub is : after ≡ before ++ map (packet_for whole change from to) notes
 
 -- the packets that a turn appends, of every side that is stood for: those of the side's turn, from the party of this role and number to that one
 module _ {V D W : Type 0} (nothing : V) (patched : V → D → Result V LedgerFault) (valid : V → Type 0) (out : V → Ledger) (inward : W → Ledger) where

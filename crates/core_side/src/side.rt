@@ -10,7 +10,7 @@ ghost use Rattle.written_net.specs.Ledgers.{Ledger as WrittenLedger};
 ghost use Rattle.written_net.specs.Net.{is_taken};
 ghost use Rattle.written_net.specs.Sides.{Side as WrittenSide, new_side};
 ghost use Rattle.core_side.specs.CoreSides.{IsSide, SaysWord, HearsAlike, PostsAlike, IsShown};
-ghost use Rattle.core_side.specs.Sending.{TurnsAlike, packet_for};
+ghost use Rattle.core_side.specs.Sending.{AppendsTurn, TurnsAlike, packet_for};
 ghost use Rattle.core_side.specs.Telling.{TellsWhy};
 ghost use Rattle.fuxi_terms.specs.declared.answers.What.TheVariants.{Exceeds as SaysExceeds};
 ghost use Rattle.core_side.specs.Testing.{Takes};
@@ -320,9 +320,38 @@ impl<A: Carried, B: Carried> Side<A, B> {
             number: peer,
             inc: self.ends.peer(),
         };
-        let notes = self.ends.turn(alloc)?;
         let _acked = self.ends.acked();
-        append_packets(notes.into_vec(), from, to, packets)?;
+        self.append_turn(alloc, from, to, packets)?;
+        Ok(())
+    }
+
+    // Appends what a turn sends. No list of notes is made where nothing is lacking or nothing is acknowledged.
+    fn append_turn(
+        &self,
+        alloc: Global,
+        from: Party,
+        to: Party,
+        packets: &mut Packets,
+    ) -> Result<(), OutOfMemory>
+        requires { to.inc ≡ self.now.incoming.place.inc }
+        ensures { OnOk result (AppendsTurn A.nothing A.patched A.whole A.changed from to self.now packets.old packets.new) }
+    {
+        let acked = self.ends.acked();
+        let last = self.ends.last();
+        let place = self.ends.place();
+        if to.inc == 0 || acked == last {
+            packets.push(packet_for(Note::<A>::Ack(place), from, to))?;
+            return Ok(());
+        }
+        if acked == 0 {
+            let whole = Note::<A>::Full(last, self.ends.sent().copy(alloc)?);
+            packets.push(packet_for(whole, from, to))?;
+            packets.push(packet_for(Note::<A>::Ack(place), from, to))?;
+            return Ok(());
+        }
+        let notes = self.ends.turn(alloc)?.into_vec();
+        packets.reserve(notes.len())?;
+        append_packets(notes, from, to, packets)?;
         Ok(())
     }
 

@@ -1,4 +1,4 @@
-use Rattle.std.proofs.Common.{rules, ◌≡◌, false, sym, ◌∙◌, ap, subst, nat_lt}
+use Rattle.std.proofs.Common.{rules, ◌≡◌, false, sym, ap, subst, nat_lt}
 use Rattle.delta_channel.specs.declared.receiver.Verdict.TheVariants.{Take}
 use Rattle.party_ledgers.specs.declared.packets.Kind.TheVariants.{Full}
 use Rattle.channel_join.specs.Alike.{told_as}

@@ -1,7 +1,6 @@
-use Rattle.std.proofs.Common.{rules, ◌≡◌, ◌≤◌, ◌<◌, false, sym, ◌∙◌, ap, subst, arith}
+use Rattle.std.proofs.Common.{rules, ◌≡◌, false, sym, ◌∙◌, ap, subst}
 use Rattle.delta_channel.specs.Hearing.{verdict_of}
 use Rattle.delta_channel.specs.declared.receiver.Verdict.TheVariants.{Take}
-use Rattle.channel_join.specs.Alike.{told_as}
 use Rattle.party_ledgers.specs.declared.header.Header.{Header}
 use Rattle.party_ledgers.specs.Packets.{is_bare}
 use Rattle.party_ledgers.specs.declared.packets.Heard.{Heard}
