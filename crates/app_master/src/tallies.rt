@@ -112,11 +112,15 @@ pub(crate) fn usable(
     if count == 0 {
         return 0;
     }
+    let given = given(demand, unit, machine);
+    if given == 0 {
+        return count;
+    }
     let credited = if grants.head() == boot {
         number_of(grants, CREDITED, unit, machine)
     } else {
         0
     };
-    let open = given(demand, unit, machine).saturating_sub(credited);
+    let open = given.saturating_sub(credited);
     count - open.min(count as u64) as u32
 }
