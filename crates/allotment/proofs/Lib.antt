@@ -16,3 +16,4 @@ pub mod OnlyTakesLemmas
 mod Boards
 mod LineGranted
 mod SettlingRunsLemmas
+mod GrantsRepeat

@@ -49,7 +49,7 @@ pub less_rest : (x y : ℕ) (r s : List ℕ) → x ≡ y → comes_before s r �
 less_rest x y r s e h = subst (λ z. comes_before (y ∷ s) (z ∷ r) ≡ true) (sym e) (ap (λ o. is_lt (ordering_then o (slice_cmp nat_cmp s r))) (is_same y) ∙ h)
 
 -- a rank that does not come before another by turn does not by place
-by_place : (l v t m p l' v' t' m' p' : ℕ) → (t' < t → p' < p) → (t ≡ t' → p ≡ p') → comes_before (l ∷ v ∷ t ∷ m ∷ []) (l' ∷ v' ∷ t' ∷ m' ∷ []) ≡ false
+pub by_place : (l v t m p l' v' t' m' p' : ℕ) → (t' < t → p' < p) → (t ≡ t' → p ≡ p') → comes_before (l ∷ v ∷ t ∷ m ∷ []) (l' ∷ v' ∷ t' ∷ m' ∷ []) ≡ false
     → ((l ≡ l') × ((v ≡ v') × ((p ≡ p') × (m ≡ m')))) ⊎ (comes_before (l' ∷ v' ∷ p' ∷ m' ∷ []) (l ∷ v ∷ p ∷ m ∷ []) ≡ true)
 by_place l v t m p l' v' t' m' p' before same e = elim (step l l' (v ∷ t ∷ m ∷ []) (v' ∷ t' ∷ m' ∷ []) e) [
   | inl lt ↦ inr (less_first l l' (v ∷ p ∷ m ∷ []) (v' ∷ p' ∷ m' ∷ []) lt)
@@ -114,7 +114,7 @@ in_mapped f q m (n ∷ ns) t (inr i) = elim (q n) as (λ b. In (f m) (map f (con
 abbrev places_of : Board → Table → ℕ → Pair → Bool → List Ranked
 places_of b es place p t = elim t as (λ _. List Ranked) [ true ↦ places_in b es place p | false ↦ [] ]
 
-in_candidates : (b : Board) (es : Table) (place k at m : ℕ) (p : Pair) (ps : List Pair) → at ≡ place + k → slice_get ps k ≡ Some p → m < length b.cluster.machines → placeable_in b es p.0 p.1 m ≡ true → In (ranked_in b es at p m) (candidates_in b es place ps)
+pub in_candidates : (b : Board) (es : Table) (place k at m : ℕ) (p : Pair) (ps : List Pair) → at ≡ place + k → slice_get ps k ≡ Some p → m < length b.cluster.machines → placeable_in b es p.0 p.1 m ≡ true → In (ranked_in b es at p m) (candidates_in b es place ps)
 in_candidates b es place k at m p [] s e lt h = cc
 in_candidates b es place zero at m p (x ∷ ps) s e lt h =
     let same : x ≡ p = cc in
@@ -128,7 +128,7 @@ in_candidates b es place zero at m p (x ∷ ps) s e lt h =
 in_candidates b es place (suc k) at m p (x ∷ ps) s e lt h = in_right (ranked_in b es at p m) (places_of b es place x (may_grow_in b es x.0 x.1)) (candidates_in b es (place + 1) ps) (in_candidates b es (place + 1) k at m p ps (omega (arith, s)) e lt h)
 
 -- whatever holds of each placeable pair by its place holds of all candidates
-placed_all : (P : Ranked → Type 0) (b : Board) (es : Table) (place : ℕ) (ps : List Pair)
+pub placed_all : (P : Ranked → Type 0) (b : Board) (es : Table) (place : ℕ) (ps : List Pair)
     → ((k at m : ℕ) (p : Pair) → at ≡ place + k → slice_get ps k ≡ Some p → m < length b.cluster.machines → placeable_in b es p.0 p.1 m ≡ true → P (ranked_in b es at p m)) → AllByRecursion P (candidates_in b es place ps)
 placed_all P b es place [] h = tt
 placed_all P b es place (x ∷ ps) h = all_append P (places_of b es place x (may_grow_in b es x.0 x.1)) (candidates_in b es (place + 1) ps)
@@ -138,7 +138,7 @@ placed_all P b es place (x ∷ ps) h = all_append P (places_of b es place x (may
     ] refl)
     (placed_all P b es (place + 1) ps (λ k at m p s e lt t. h (suc k) at m p (omega (arith, s)) e lt t))
 
-all_in : {A : Type 0} (P : A → Type 0) (x : A) (xs : List A) → AllByRecursion P xs → In x xs → P x
+pub all_in : {A : Type 0} (P : A → Type 0) (x : A) (xs : List A) → AllByRecursion P xs → In x xs → P x
 all_in P x [] h i = absurd i
 all_in P x (y ∷ ys) h (inl e) = subst P (sym e) h.0
 all_in P x (y ∷ ys) h (inr i) = all_in P x ys h.1 i

@@ -71,7 +71,7 @@ module _ (c : ClusterRecord) (cells : List (List Cell)) (o : List Bool) (t : Tab
       part true x y z e h = omega (arith, h)
       part false x y z e h = cc
 
-  may : (a u m : ℕ) → u < length (get_or cells a []) → m < length t.cluster.machines → may_grow_in (board_over cells o t) t.entries a u ≡ true → has_room_in t.cluster (size_at (as_known t.jobs)) t.entries a u m ≡ true → IsGrantable t (spot a u m)
+  pub may : (a u m : ℕ) → u < length (get_or cells a []) → m < length t.cluster.machines → may_grow_in (board_over cells o t) t.entries a u ≡ true → has_room_in t.cluster (size_at (as_known t.jobs)) t.entries a u m ≡ true → IsGrantable t (spot a u m)
   may a u m unit machine grows room =
       let n = count_is c cells t l a in
       let out : nat_lt 0 (out_of (asks_in cells) t.entries a u) ≡ true = (both_true (nat_lt 0 (out_of (asks_in cells) t.entries a u)) _ grows).0 in

@@ -5,7 +5,7 @@ use Rattle.std.specs.List.{AllByRecursion, IsDistinct}
 use Rattle.std.proofs.lemmas.List.{get_or_default, length-replicate}
 use Rattle.fuxi_terms.specs.Limits.{most_jobs, most_units}
 use Rattle.fuxi_terms.proofs.Alls.{all_append, all_filter}
-use Rattle.fuxi_terms.proofs.Booleans.{both_true, number_is, same_tests, and_true, nat_itself}
+use Rattle.fuxi_terms.proofs.Booleans.{both_true, number_is, same_tests, and_true, nat_itself, or_right}
 use Rattle.written_roles.specs.Placing.{has_pair}
 use Rattle.place_pass.specs.WaitingLines.{same_pair, IsLine}
 use Rattle.place_pass.proofs.WaitingLinesLemmas.{any_append, either_one, has_filter, neither, or_none, pair_is, pair_self, pair_turned}
@@ -157,3 +157,9 @@ pub place_inside : {A : Type 0} (xs : List A) (i : ℕ) (x : A) → slice_get xs
 place_inside [] i x e = cc
 place_inside (y ∷ ys) zero x e = omega arith
 place_inside (y ∷ ys) (suc i) x e = let lt = place_inside ys i x e in omega (arith, lt)
+
+-- who stands at a place is there
+pub has_at : (xs : List Pair) (i : ℕ) (p : Pair) → slice_get xs i ≡ Some p → has_pair p xs ≡ true
+has_at [] i p e = cc
+has_at (x ∷ xs) zero p e = let same : x ≡ p = cc in subst (λ (y : Pair). has_pair y (x ∷ xs) ≡ true) same (ap (λ b. b || has_pair x xs) (pair_self x))
+has_at (x ∷ xs) (suc i) p e = or_right (same_pair p x) (has_pair p xs) (has_at xs i p e)

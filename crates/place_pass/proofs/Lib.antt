@@ -19,6 +19,7 @@ mod SearchCountsLemmas
 mod KeptLemmas
 mod FirstOfLine
 mod FirstByTurn
+mod FirstStays
 mod PlacerTreesLemmas
 mod StandsAfterChange
 mod LinedLemmas

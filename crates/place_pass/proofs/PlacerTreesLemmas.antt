@@ -1,9 +1,10 @@
 -- What a tree holds after one unit of it begins to wait, waits no more, or stands in other queues.
+use mathlib.Core.Bool.{beq}
 use Rattle.std.proofs.Common.{◌≡◌, ◌≢◌, ℕ, zero, suc, ◌+◌, ◌*◌, ◌<◌, Bool, true, false, cond, nat_eq, nat_lt, List, [], ◌∷◌, Option, Some, None, length, take, get_or, set, slice_get, refl, sym, ap, subst, ◌∙◌, inl, inr, arith, length-set}
 use Rattle.std.specs.Prelude.{◌&&◌, ◌||◌, ◌/◌, ◌%◌, replicate}
 use Rattle.std.proofs.lemmas.Bool.{cases_eq, cases_lt}
 use Rattle.std.proofs.lemmas.Bool.Decides.{nat_tests}
-use Rattle.std.proofs.lemmas.List.{get_or-set_same, get_or-set_other, length-map, length-replicate}
+use Rattle.std.proofs.lemmas.List.{get_or-set_same, get_or-set_other, set-get_or, length-map, length-replicate}
 use Rattle.std.proofs.Math.ListN.{get_or-eq_default}
 use Rattle.fuxi_terms.specs.Cluster.{ClusterRecord, MachineRecord}
 use Rattle.fuxi_terms.specs.Keys.{Pair}
@@ -143,6 +144,21 @@ module _ (c : ClusterRecord) (t t' : TreeRecord) (e : Entry) (place : ℕ) (unme
 
   pub marked_waits : WaitsIn c e t'
   marked_waits = waits_on c e (unit_number e.app.0 e.unit.0) t t' w marked
+
+pub same_bool : (a b : Bool) → beq a b ≡ true → a ≡ b
+same_bool true true e = refl
+same_bool true false e = cc
+same_bool false true e = cc
+same_bool false false e = refl
+
+-- one that stands as it has to is written as it is
+pub stood_so : (t : TreeRecord) (e : Entry) (place : ℕ) (unmet : Bool) → get_or (unit_at t e.app.0 e.unit.0).stands place false ≡ unmet → t ≡ with_stand t e place unmet
+stood_so t e place unmet h =
+    let n = unit_number e.app.0 e.unit.0 in
+    let u = get_or t.units n no_unit in
+    let stands : set u.stands place unmet ≡ u.stands = ap (set u.stands place) (sym h) ∙ set-get_or u.stands place false in
+    let units : set t.units n (record u { stands = set u.stands place unmet }) ≡ t.units = ap (λ (xs : List Bool). set t.units n (record u { stands = xs })) stands ∙ set-get_or t.units n no_unit in
+    sym (ap (λ (us : List UnitState). record t { units = us }) units)
 
 pub racks_long : (c : ClusterRecord) (t : TreeRecord) → t.racks ≡ racks_of c → length t.racks ≡ length c.machines
 racks_long c t e = ap length e ∙ length-map c.machines (λ (m : MachineRecord). m.rack)

@@ -12,7 +12,7 @@ ghost use Rattle.place_pass.specs.Scenes.{board_in, CanSearch, IsEarliest};
 
 use crate::marks::Rank;
 use crate::search::{Scene, is_earlier_here, turn_of_unit};
-use crate::sparse::is_clear;
+use crate::sparse::{is_clear, is_clear_to};
 use crate::wishes::Wishes;
 use fuxi_terms::limits::MOST_RACKS;
 use schedule_unit::{AppNo, UnitNo};
@@ -26,7 +26,7 @@ fn least_level(wishes: &Wishes, app: AppNo, unit: UnitNo) -> u8
     ensures { (c : ClusterRecord) (es : Table) (m : ℕ) → result ≤ level_of c (asks_in wishes.now.cells) es app.0 unit.0 m }
 {
     let wish = wishes.wish(app, unit);
-    if !is_clear(&wish.near, 0, wishes.cluster().machines()) {
+    if !is_clear_to(&wish.near, wishes.cluster().machines()) {
         return 0;
     }
     if !is_clear(&wish.racks, 0, MOST_RACKS) {

@@ -1,6 +1,6 @@
 //! Bounds of machines as plain numbers, so that a walk over all machines reads one number of each.
 
-ghost use Rattle.std.specs.Prelude.{◌≡◌, ℕ, ◌+◌, ◌*◌, ◌/◌, ◌^◌, ◌<◌, ◌≤◌, min, cond, length, true, false, nat_eq, is_some};
+ghost use Rattle.std.specs.Prelude.{◌≡◌, ℕ, ◌+◌, ◌*◌, ◌/◌, ◌⊎◌, ◌^◌, ◌<◌, ◌≤◌, min, cond, length, true, false, nat_eq, is_some};
 ghost use Rattle.std.proofs.Common.{get_or};
 ghost use Rattle.place_pass.specs.Bounds.{mark_of, key_of};
 ghost use Rattle.place_pass.specs.PackedRanks.{packed, no_rank, never_rank, renewed_number, IsSmall, IsAbove};
@@ -59,21 +59,25 @@ pub(crate) fn number_of_mark(mark: &Mark, until: u64, machine: u32) -> u128
     number
 }
 
-// The number of a machine when no pair from a turn on is looked at yet.
-fn renewed(key: u128) -> u128
-    ensures { result ≡ renewed_number key }
-{
-    if key == number_of_never() { key } else { 0 }
-}
-
-// No pair from a turn on is looked at yet on any machine.
-fn renew(numbers: &mut Vec<u128>)
+// No pair from a turn on is looked at yet on the machines from one on to another. Whether all of them are settled whatever begins to wait.
+fn renew(numbers: &mut Vec<u128>, from: usize, to: usize) -> bool
+    requires order { from ≤ to }
+    requires inside { to ≤ length numbers.old.items }
     ensures long { length numbers.new.items ≡ length numbers.old.items }
-    ensures all { (n : ℕ) → n < length numbers.new.items → get_or numbers.new.items n 0 ≡ renewed_number (get_or numbers.old.items n 0) }
+    ensures inside { (n : ℕ) → from ≤ n → n < to → get_or numbers.new.items n 0 ≡ renewed_number (get_or numbers.old.items n 0) }
+    ensures before { (n : ℕ) → n < from → get_or numbers.new.items n 0 ≡ get_or numbers.old.items n 0 }
+    ensures behind { (n : ℕ) → to ≤ n → get_or numbers.new.items n 0 ≡ get_or numbers.old.items n 0 }
+    ensures settled { result ≡ true → (n : ℕ) → from ≤ n → n < to → get_or numbers.new.items n 0 ≡ never_rank }
 {
-    for place in 0..numbers.len() {
-        numbers[place] = renewed(numbers[place]);
+    let mut settled = true;
+    for place in from..to {
+        if numbers[place] == number_of_never() {
+            continue;
+        }
+        numbers[place] = 0;
+        settled = false;
     }
+    settled
 }
 
 // The end of the block in which a place stands.
@@ -117,8 +121,8 @@ fn least_of(numbers: &[u128], from: usize, to: usize) -> u128
 pub(crate) struct Keys {
     numbers: Vec<u128>,
     floors: [u128; BLOCKS],
-    /// Whether the floor of a block may be raised, since the number that it was of is another one.
-    stale: [bool; BLOCKS],
+    /// A bit for each block whose floor may be raised, since the number that it was of is another one.
+    stale: u16,
 }
 
 impl Model for Keys {
@@ -133,7 +137,7 @@ impl Model for Keys {
 }
 
 impl Keys {
-    ghost use Rattle.std.specs.Prelude.{◌≡◌, ℕ, ◌<◌, ◌≤◌, length, replicate, set, IfOk};
+    ghost use Rattle.std.specs.Prelude.{◌≡◌, ℕ, ◌+◌, ◌*◌, ◌/◌, ◌<◌, ◌≤◌, ◌⊎◌, min, length, replicate, set, IfOk};
     ghost use Rattle.std.proofs.Common.{get_or};
     ghost use Rattle.place_pass.specs.PackedRanks.{renewed_number};
 
@@ -145,7 +149,7 @@ impl Keys {
         Ok(Keys {
             numbers: Vec::from_elem(alloc, 0, machines)?,
             floors: [0; BLOCKS],
-            stale: [false; BLOCKS],
+            stale: 0,
         })
     }
 
@@ -169,7 +173,7 @@ impl Keys {
         if number < floor {
             self.floors[block] = number;
         } else if before == floor {
-            self.stale[block] = true;
+            self.stale |= 1 << block;
         }
     }
 
@@ -181,22 +185,22 @@ impl Keys {
         let start = block * BLOCK;
         let end = block_end(start, self.numbers.len());
         self.floors[block] = least_of(&self.numbers, start, end);
-        self.stale[block] = false;
+        self.stale &= !(1 << block);
     }
 
     /// Raises the floors under numbers that were raised. Where one block has all machines a walk reads its numbers as fast.
     pub(crate) fn raise(&mut self)
         ensures { self.new ≡ self.old }
     {
-        let machines = self.numbers.len();
-        if machines <= BLOCK {
+        if self.numbers.len() <= BLOCK {
             return;
         }
         for block in 0..BLOCKS {
-            if block * BLOCK >= machines {
+            let left = self.stale >> block;
+            if left == 0 {
                 return;
             }
-            if self.stale[block] {
+            if left & 1 == 1 {
                 self.raise_one(block);
             }
         }
@@ -219,6 +223,18 @@ impl Keys {
         first_below(&self.numbers, from, to, limit)
     }
 
+    // The start of the first block from one on whose floor is below a limit, and the end of all where there is none.
+    fn next_block(&self, from: usize, limit: u128) -> usize
+        requires { from ≤ (length self.now + 15) / 16 }
+        ensures least { (from * 16 ≤ result) ⊎ (result ≡ length self.now) }
+        ensures inside { result ≤ length self.now }
+        ensures passed { (m : ℕ) → from * 16 ≤ m → m < result → limit ≤ get_or self.now m 0 }
+    {
+        let machines = self.numbers.len();
+        let low = first_below(&self.floors, from, (machines + BLOCK - 1) / BLOCK, limit);
+        machines.min(low * BLOCK)
+    }
+
     /// The first machine from one on whose number is below a limit, and the end where there is none.
     pub(crate) fn next(&self, from: usize, limit: u128) -> usize
         requires { from ≤ length self.now }
@@ -233,9 +249,27 @@ impl Keys {
             if found < end {
                 return found;
             }
-            at = end;
+            at = self.next_block(at / BLOCK + 1, limit);
         }
         at
+    }
+
+    // No pair from a turn on is looked at yet on the machines of a block, which begins and ends here.
+    fn renew_block(&mut self, from: usize, to: usize)
+        requires from { from < length self.old }
+        requires start { from ≡ from / 16 * 16 }
+        requires to { to ≡ min (length self.old) (from / 16 * 16 + 16) }
+        ensures long { length self.new ≡ length self.old }
+        ensures inside { (m : ℕ) → from ≤ m → m < to → get_or self.new m 0 ≡ renewed_number (get_or self.old m 0) }
+        ensures before { (m : ℕ) → m < from → get_or self.new m 0 ≡ get_or self.old m 0 }
+        ensures behind { (m : ℕ) → to ≤ m → get_or self.new m 0 ≡ get_or self.old m 0 }
+    {
+        let block = from / BLOCK;
+        if renew(&mut self.numbers, from, to) {
+            self.floors[block] = number_of_never();
+            return;
+        }
+        self.floors[block] = 0;
     }
 
     /// No pair from a turn on is looked at yet, so only a machine that is settled whatever begins to wait has a number above the least.
@@ -243,8 +277,13 @@ impl Keys {
         ensures long { length self.new ≡ length self.old }
         ensures all { (m : ℕ) → m < length self.new → get_or self.new m 0 ≡ renewed_number (get_or self.old m 0) }
     {
-        renew(&mut self.numbers);
-        self.floors = [0; BLOCKS];
-        self.stale = [true; BLOCKS];
+        let machines = self.numbers.len();
+        let mut at = 0;
+        while at < machines {
+            let end = block_end(at, machines);
+            self.renew_block(at, end);
+            at = end;
+        }
+        self.stale = 0;
     }
 }

@@ -1,8 +1,6 @@
 //! The line of waiting pairs, in order.
 
-ghost use Rattle.std.specs.Prelude.{◌≡◌, ◌+◌, ◌<◌, ◌≤◌, ◌++◌, ◌∷◌, [], true, false, Some, slice_get, vec_len, vec_capacity};
-ghost use Rattle.written_roles.specs.Placing.{has_pair};
-ghost use Rattle.place_pass.specs.WaitingLines.{same_pair};
+ghost use Rattle.std.specs.Prelude.{◌≡◌, ◌<◌, ◌≤◌, ◌++◌, ◌∷◌, [], vec_len, vec_capacity};
 
 use crate::search::slot;
 use crate::wishes::UNIT_PLACES;
@@ -31,8 +29,9 @@ impl Model for Line {
 }
 
 impl Line {
-    ghost use Rattle.std.specs.Prelude.{◌≡◌, ◌+◌, ◌<◌, ◌≤◌, ◌^◌, ◌++◌, ◌∷◌, ◌&&◌, [], false, not, nat_eq, length, filter, slice_get, Some, IfOk, OnOk};
+    ghost use Rattle.std.specs.Prelude.{◌≡◌, ℕ, ◌+◌, ◌<◌, ◌≤◌, ◌^◌, ◌++◌, ◌∷◌, ◌&&◌, [], true, false, not, nat_eq, length, filter, slice_get, Some, IfOk, OnOk};
     ghost use Rattle.std.specs.List.{IsDistinct};
+    ghost use Rattle.fuxi_terms.specs.Keys.{Pair};
     ghost use Rattle.fuxi_terms.specs.Limits.{most_jobs, most_units};
     ghost use Rattle.written_roles.specs.Placing.{has_pair};
     ghost use Rattle.place_pass.specs.WaitingLines.{LineRecord, same_pair};
@@ -82,6 +81,13 @@ impl Line {
         let _len = self.pairs.len();
     }
 
+    /// The pairs are of jobs and units that there may be.
+    pub(crate) fn inside(&self)
+        ensures { (a u : ℕ) → has_pair (a, u) self.now.pairs ≡ true → (a < most_jobs) × (u < most_units) }
+    {
+        let _len = self.pairs.len();
+    }
+
     /// Whether the pair waits.
     pub(crate) fn has(&self, app: u32, unit: u8) -> bool
         ensures { result ≡ has_pair (app, unit) self.now.pairs }
@@ -109,18 +115,14 @@ impl Line {
         add(&mut self.pairs, app, unit);
     }
 
-    /// A pair leaves, where it is there. The others stay in their order.
-    pub(crate) fn remove(&mut self, app: u32, unit: u8)
-        requires app { app < most_jobs }
-        requires unit { unit < most_units }
-        ensures pairs { self.new.pairs ≡ filter (λ p. not (nat_eq p.0 app && nat_eq p.1 unit)) self.old.pairs }
+    /// The pair at a place leaves. The others stay in their order.
+    pub(crate) fn remove(&mut self, place: usize)
+        requires { place < length self.old.pairs }
+        ensures pairs { (p : Pair) → slice_get self.old.pairs place ≡ Some p → self.new.pairs ≡ filter (λ q. not (nat_eq q.0 p.0 && nat_eq q.1 p.1)) self.old.pairs }
         ensures room { self.new.room ≡ self.old.room }
     {
-        if !self.has(app, unit) {
-            return;
-        }
-        self.waits[slot(AppNo(app), UnitNo(unit))] = false;
-        let place = place_of(&self.pairs, app, unit);
+        let (app, unit) = self.at(place);
+        self.waits[slot(app, unit)] = false;
         self.pairs.remove(place);
     }
 }
@@ -135,25 +137,4 @@ fn add(pairs: &mut Vec<(u32, u8)>, app: u32, unit: u8)
         Ok(()) => {}
         Err(_) => unreachable!(),
     }
-}
-
-// Whether a pair is that of this job and this unit.
-fn is_pair(pair: (u32, u8), app: u32, unit: u8) -> bool
-    ensures { result ≡ same_pair (app, unit) (pair.0, pair.1) }
-{
-    pair.0 == app && pair.1 == unit
-}
-
-// Where a pair stands that is there.
-fn place_of(pairs: &[(u32, u8)], app: u32, unit: u8) -> usize
-    requires { has_pair (app, unit) pairs.now ≡ true }
-    ensures { slice_get pairs.now result ≡ Some (app, unit) }
-{
-    for place in 0..pairs.len() {
-        let pair = pairs[place];
-        if is_pair(pair, app, unit) {
-            return place;
-        }
-    }
-    unreachable!()
 }

@@ -106,6 +106,13 @@ impl Mark {
         self.groups = [false; 32];
     }
 
+    // Whether it says nothing of pairs with this turn or a later one.
+    fn is_within(&self, turns: u64) -> bool
+        ensures { result ≡ true → limited_mark turns (mark_of self.now) ≡ mark_of self.now }
+    {
+        self.until <= turns
+    }
+
     // Pairs with this turn or a later one may be placeable.
     fn limit(&mut self, turns: u64)
         ensures { mark_of self.new ≡ limited_mark turns (mark_of self.old) }
@@ -376,6 +383,13 @@ impl Marks {
         self.until = turns;
     }
 
+    // What was settled is passed in blocks from now on.
+    fn raise(&mut self)
+        ensures { self.new ≡ self.old }
+    {
+        self.keys.raise();
+    }
+
     // Whether a mark may note a group.
     fn may_note(&self) -> bool
         ensures { result ≡ false → (m g : ℕ) → m < length self.now → get_or (mark_at self.now m).groups g false ≡ false }
@@ -409,6 +423,9 @@ impl Marks {
         ensures long { length self.new ≡ length self.old }
         ensures marks { (m : ℕ) → mark_at self.new m ≡ cond (nat_eq machine m) (limited_mark turns (mark_at self.old machine)) (mark_at self.old m) }
     {
+        if self.at(machine).is_within(turns) {
+            return;
+        }
         let mark = &mut self.marks[machine as usize];
         mark.limit(turns);
         let key = number_of_mark(mark, self.until, machine);
@@ -436,6 +453,7 @@ pub(crate) fn lower_all(marks: &mut Marks)
     ensures marks { (m : ℕ) → m < length marks.old → mark_at marks.new m ≡ lowered_mark (mark_at marks.old m) }
     ensures long { length marks.new ≡ length marks.old }
 {
+    marks.raise();
     let mut at = 0;
     while at < marks.len() {
         let number = marks.next(at, number_of_none(), 0);

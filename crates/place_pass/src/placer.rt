@@ -84,13 +84,13 @@ impl Placer {
     ghost use Rattle.fuxi_terms.specs.Counts.{count};
     ghost use Rattle.fuxi_terms.specs.Jobs.{is_known, unit_count};
     ghost use Rattle.fuxi_terms.specs.Tables.{spot, held_on};
-    ghost use Rattle.written_roles.specs.Masters.{out_of};
-    ghost use Rattle.written_roles.specs.Placing.{first_in, lined, has_pair};
+    ghost use Rattle.written_roles.specs.Masters.{level_of, out_of};
+    ghost use Rattle.written_roles.specs.Placing.{first_in, lined, has_pair, placeable_in};
     ghost use Rattle.grant_table.specs.GrantTables.{TableRecord, as_known, with_admitted};
     ghost use Rattle.place_pass.specs.PlacerTrees.{TreeOf};
     ghost use Rattle.place_pass.specs.Best.{spot_of};
     ghost use Rattle.place_pass.specs.SearchCounts.{IsLifted, IsTight, StaysTight, is_unsettled, unsettled_machines};
-    ghost use Rattle.place_pass.specs.Placers.{AreAllowed, job_seen, asks_seen, asks_after, is_open, units_seen, IsLevelWith, IsUpToDate, IsSetFrom, IsGrantable, board_with, waiting_with, line_told, AsksNoMore, AsksOtherwiseAt};
+    ghost use Rattle.place_pass.specs.Placers.{AreAllowed, AreLevel, job_seen, asks_seen, asks_after, is_open, units_seen, IsLevelWith, IsUpToDate, IsSetFrom, IsGrantable, board_with, waiting_with, line_told, AsksNoMore, AsksOtherwiseAt};
 
     /// A placer of a cluster, with no job, and with no machine open. It is level with the empty table. Where memory
     /// is refused there is no placer.
@@ -273,7 +273,7 @@ impl Placer {
         let _cluster = table.cluster();
         let _wishes = self.wishes.cluster();
         let before = self.line.len();
-        leave(
+        let begins = leave(
             &mut self.line,
             &mut self.tree,
             &self.wishes,
@@ -282,7 +282,7 @@ impl Placer {
             table,
         );
         let stayed = self.line.len();
-        join(&mut self.line, &self.wishes, &self.calm, table);
+        join(&mut self.line, &self.wishes, &self.calm, table, begins);
         number_from(
             &mut self.turn_of,
             &self.line,
@@ -403,6 +403,40 @@ impl Placer {
             return None;
         };
         Some(pick)
+    }
+
+    /// The level of an admitted unit on a machine: 0 where it wants more there than it has, else 1 where it does in the rack, and else 2.
+    pub fn level(&self, table: &GrantTable, pick: Pick) -> u8
+        requires level { AreLevel self.now.seen.cluster (job_seen self.now.seen) table.now }
+        requires unit { pick.unit.0 < units_seen self.now.seen pick.app.0 }
+        requires machine { pick.machine.0 < length table.now.cluster.machines }
+        ensures { result ≡ level_of table.now.cluster (asks_seen self.now.seen) table.now.entries pick.app.0 pick.unit.0 pick.machine.0 }
+    {
+        let _wishes = self.wishes.cluster();
+        self.wishes.level(table, pick.app, pick.unit, pick.machine)
+    }
+
+    /// Whether the unit may be granted on the machine once more, by a table of which the placer need not be told yet. The table may make
+    /// that grant. At most one step is counted.
+    pub fn may_place<L: Ledger>(&self, table: &GrantTable, steps: &mut Steps<L>, pick: Pick) -> bool
+        requires level { AreLevel self.now.seen.cluster (job_seen self.now.seen) table.now }
+        requires unit { pick.unit.0 < units_seen self.now.seen pick.app.0 }
+        requires machine { pick.machine.0 < length table.now.cluster.machines }
+        ensures placeable { result ≡ placeable_in (board_with self.now.seen table.now) table.now.entries pick.app.0 pick.unit.0 pick.machine.0 }
+        ensures grantable { result ≡ true → IsGrantable table.now (spot_of pick) }
+        ensures count { steps.new ≤ steps.old + 1 }
+    {
+        let _table = table.cluster();
+        let _wishes = self.wishes.cluster();
+        let Pick { app, unit, machine } = pick;
+        if self.wishes.outstanding(table, app, unit) == 0 {
+            return false;
+        }
+        let free = table.free(machine, steps);
+        if !self.wishes.takes(table, &free, app, unit, machine) {
+            return false;
+        }
+        self.wishes.allowed(table, app, unit)
     }
 }
 

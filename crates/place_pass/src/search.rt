@@ -126,7 +126,7 @@ impl Wishes {
 
     // Whether the machine takes the unit, the unit holds fewer there than its greatest number, and the machine has
     // room for it.
-    fn takes(
+    pub(crate) fn takes(
         &self,
         table: &GrantTable,
         free: &Res,
@@ -165,7 +165,13 @@ impl Wishes {
     }
 
     // The level of the unit on the machine.
-    fn level(&self, table: &GrantTable, app: AppNo, unit: UnitNo, machine: MachineNo) -> u8
+    pub(crate) fn level(
+        &self,
+        table: &GrantTable,
+        app: AppNo,
+        unit: UnitNo,
+        machine: MachineNo,
+    ) -> u8
         requires level { AreLevel self.now.cluster (job_at self.now.cells) table.now }
         requires unit { unit.0 < length (get_or self.now.cells app.0 []) }
         requires machine { machine.0 < length table.now.cluster.machines }

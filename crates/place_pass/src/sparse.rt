@@ -36,6 +36,18 @@ fn behind_clear(numbers: &Vec<u32>, from: u32, end: u32) -> u32
     at
 }
 
+/// Whether 0 stands everywhere before a place. It is left at the first block that has another number.
+pub(crate) fn is_clear_to(numbers: &Vec<u32>, end: u32) -> bool
+    requires { end ≤ length numbers.now.items }
+    ensures { result ≡ true → (k : ℕ) → k < end → get_or numbers.now.items k 0 ≡ 0 }
+{
+    let at = behind_clear(numbers, 0, end);
+    if end - at >= BLOCK {
+        return false;
+    }
+    is_clear(numbers, at, end)
+}
+
 /// The first place from one on at which a number is not 0, and the end where there is none.
 pub(crate) fn first_some(numbers: &Vec<u32>, from: u32, end: u32) -> u32
     requires order { from ≤ end }

@@ -8,7 +8,7 @@ ghost use Rattle.fuxi_terms.specs.Tables.{spot};
 ghost use Rattle.fuxi_terms.specs.Keys.{Pair};
 ghost use Rattle.written_roles.specs.Placing.{has_pair};
 ghost use Rattle.grant_table.specs.GrantTables.{TableRecord, as_known};
-ghost use Rattle.locality_tree.specs.Trees.{unit_at, unit_number, rack_place, cluster_place};
+ghost use Rattle.locality_tree.specs.Trees.{unit_at, unit_number, rack_place, cluster_place, with_stand};
 ghost use Rattle.place_pass.specs.Best.{AreAdmitted};
 ghost use Rattle.place_pass.specs.Bounds.{IsRising, turn_at};
 ghost use Rattle.place_pass.specs.Cells.{cell_of, job_at, unit_places};
@@ -111,6 +111,56 @@ fn asks_or_stands_within(tree: &Tree, entry: &Entry, wish: &Wish, rack: RackNo) 
     tree.stands_within(entry, rack)
 }
 
+// A unit that waits stands in a machine's queue exactly where something of it is unmet there. Mostly it stands as it has to.
+fn turn_on(tree: &mut Tree, entry: &Entry, machine: MachineNo, unmet: bool)
+    requires waits { (unit_at tree.old entry.now.app.0 entry.now.unit.0).entry ≡ Some entry.now }
+    requires machine { machine.0 < length tree.old.racks }
+    ensures { tree.new ≡ with_stand tree.old entry.now machine.0 unmet }
+{
+    if tree.stands_on(entry, machine) == unmet {
+        return;
+    }
+    tree.mark_machine(entry, machine, unmet);
+}
+
+// The same of a rack.
+fn turn_within(tree: &mut Tree, entry: &Entry, rack: RackNo, unmet: bool)
+    requires waits { (unit_at tree.old entry.now.app.0 entry.now.unit.0).entry ≡ Some entry.now }
+    requires rack { rack.0 < 64 }
+    ensures { tree.new ≡ with_stand tree.old entry.now (rack_place tree.old.racks rack.0) unmet }
+{
+    if tree.stands_within(entry, rack) == unmet {
+        return;
+    }
+    tree.mark_rack(entry, rack, unmet);
+}
+
+// A unit that waits and does not stand in a machine's queue enters it where something of it is unmet there.
+fn enter_on(tree: &mut Tree, entry: &Entry, machine: MachineNo, unmet: bool)
+    requires waits { (unit_at tree.old entry.now.app.0 entry.now.unit.0).entry ≡ Some entry.now }
+    requires machine { machine.0 < length tree.old.racks }
+    requires outside { get_or (unit_at tree.old entry.now.app.0 entry.now.unit.0).stands machine.0 false ≡ false }
+    ensures { tree.new ≡ with_stand tree.old entry.now machine.0 unmet }
+{
+    if !unmet {
+        return;
+    }
+    tree.mark_machine(entry, machine, true);
+}
+
+// The same of a rack.
+fn enter_within(tree: &mut Tree, entry: &Entry, rack: RackNo, unmet: bool)
+    requires waits { (unit_at tree.old entry.now.app.0 entry.now.unit.0).entry ≡ Some entry.now }
+    requires rack { rack.0 < 64 }
+    requires outside { get_or (unit_at tree.old entry.now.app.0 entry.now.unit.0).stands (rack_place tree.old.racks rack.0) false ≡ false }
+    ensures { tree.new ≡ with_stand tree.old entry.now (rack_place tree.old.racks rack.0) unmet }
+{
+    if !unmet {
+        return;
+    }
+    tree.mark_rack(entry, rack, true);
+}
+
 // A unit that waits stands in the queues of the machines on which it asks for more than it has: only those for which it asks, and those in
 // whose queues it stands, need a look.
 fn mark_machines(tree: &mut Tree, entry: &Entry, wishes: &Wishes, table: &GrantTable)
@@ -186,7 +236,7 @@ fn enter_machines(tree: &mut Tree, entry: &Entry, wishes: &Wishes, table: &Grant
     while number < machines {
         let machine = MachineNo(number);
         let unmet = wishes.is_unmet_on(table, entry.app, entry.unit, machine);
-        tree.mark_machine(entry, machine, unmet);
+        enter_on(tree, entry, machine, unmet);
         number = first_some(&wish.near, number + 1, machines);
     }
 }
@@ -207,7 +257,7 @@ fn enter_racks(tree: &mut Tree, entry: &Entry, wishes: &Wishes, table: &GrantTab
     while number < MOST_RACKS {
         let rack = RackNo(number);
         let unmet = wishes.is_unmet_in(table, entry.app, entry.unit, rack);
-        tree.mark_rack(entry, rack, unmet);
+        enter_within(tree, entry, rack, unmet);
         number = first_some(&wish.racks, number + 1, MOST_RACKS);
     }
 }
@@ -243,10 +293,10 @@ fn mark_spot(
     ensures spot { RestoodAt wishes.now.cluster wishes.now.cells table.now.entries entry.now.app.0 entry.now.unit.0 machine.0 (rack_of wishes.now.cluster machine.0) tree.old tree.new }
 {
     let unmet = wishes.is_unmet_on(table, entry.app, entry.unit, machine);
-    tree.mark_machine(entry, machine, unmet);
+    turn_on(tree, entry, machine, unmet);
     let rack = table.cluster().machine(machine).rack;
     let in_rack = wishes.is_unmet_in(table, entry.app, entry.unit, rack);
-    tree.mark_rack(entry, rack, in_rack);
+    turn_within(tree, entry, rack, in_rack);
 }
 
 /// Told that a unit has another number on a machine: where it waits it stands in the queues of the machine and of its rack where it asks

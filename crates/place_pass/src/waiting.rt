@@ -1,11 +1,12 @@
 //! The next line: who leaves it, and who begins to wait. Only the jobs are asked of which something was told since. No call takes
 //! memory.
 
-ghost use Rattle.std.specs.Prelude.{◌≡◌, ℕ, ◌+◌, ◌<◌, ◌≤◌, ◌++◌, ◌∷◌, [], ◌&&◌, ◌||◌, ◌-◌, ◌^◌, Some, slice_get, false, not, cond, nat_eq, nat_lt, length, filter, map};
+ghost use Rattle.std.specs.Prelude.{◌≡◌, ℕ, ◌+◌, ◌<◌, ◌≤◌, ◌++◌, ◌∷◌, [], ◌&&◌, ◌||◌, ◌-◌, ◌^◌, Some, slice_get, true, false, not, cond, nat_eq, nat_lt, length, filter, map};
 ghost use Rattle.std.proofs.Common.{get_or};
 ghost use Rattle.fuxi_terms.specs.Cluster.{JobRecord};
 ghost use Rattle.fuxi_terms.specs.Jobs.{unit_count};
 ghost use Rattle.fuxi_terms.specs.Keys.{Pair};
+ghost use Rattle.fuxi_terms.specs.Limits.{most_jobs, most_units};
 ghost use Rattle.fuxi_terms.specs.Tables.{Table};
 ghost use Rattle.written_roles.specs.Masters.{out_of};
 ghost use Rattle.written_roles.specs.Placing.{has_pair, waiting_in};
@@ -41,6 +42,43 @@ fn add_unit(next: &mut Line, wishes: &Wishes, app: AppNo, unit: UnitNo)
     next.push(app.0, unit.0);
 }
 
+// The turn that stands for a unit.
+fn turn_at(turn_of: &Vec<u64>, app: AppNo, unit: UnitNo) -> u64
+    requires app { app.0 < most_jobs }
+    requires unit { unit.0 < most_units }
+    requires places { length turn_of.now.items ≡ unit_places }
+    ensures { result ≡ turn_at turn_of.now.items app.0 unit.0 }
+{
+    turn_of[slot(app, unit)]
+}
+
+// Where a pair of the line stands, found by halves: the turns rise along it.
+fn place_of(line: &Line, turn_of: &Vec<u64>, app: AppNo, unit: UnitNo) -> usize
+    requires there { has_pair (app.0, unit.0) line.now.pairs ≡ true }
+    requires places { length turn_of.now.items ≡ unit_places }
+    requires rises { IsRising (λ (p : Pair). turn_at turn_of.now.items p.0 p.1) line.now.pairs }
+    ensures { slice_get line.now.pairs result ≡ Some (app.0, unit.0) }
+{
+    line.inside();
+    let turn = turn_at(turn_of, app, unit);
+    let mut low = 0;
+    let mut high = line.len();
+    while low < high {
+        let middle = low + (high - low) / 2;
+        let (other, number) = line.at(middle);
+        let here = turn_at(turn_of, other, number);
+        if here == turn {
+            return middle;
+        }
+        if here < turn {
+            low = middle + 1;
+            continue;
+        }
+        high = middle;
+    }
+    unreachable!()
+}
+
 /// With nothing out a unit leaves the line and waits no more.
 pub(crate) fn leave_unit(
     line: &mut Line,
@@ -68,12 +106,13 @@ pub(crate) fn leave_unit(
     if wishes.outstanding(table, app, unit) > 0 {
         return;
     }
+    let place = place_of(line, turn_of, app, unit);
     let entry = entry_for(wishes, turn_of, app, unit);
     tree.refresh(&entry, false);
-    line.remove(app.0, unit.0);
+    line.remove(place);
 }
 
-// The units of one job with nothing out leave the line and wait no more.
+// The units of one job with nothing out leave the line and wait no more. True where another one begins to wait.
 fn leave_units(
     line: &mut Line,
     tree: &mut Tree,
@@ -81,7 +120,7 @@ fn leave_units(
     turn_of: &Vec<u64>,
     table: &GrantTable,
     app: AppNo,
-)
+) -> bool
     requires level { AreLevel wishes.now.cluster (job_at wishes.now.cells) table.now }
     requires admitted { AreAdmitted wishes.now.cells line.old.pairs }
     requires places { length turn_of.now.items ≡ unit_places }
@@ -91,17 +130,25 @@ fn leave_units(
     ensures room { line.new.room ≡ line.old.room }
     ensures holds { HoldsLine wishes.now.cluster wishes.now.cells line.new.pairs turn_of.now.items tree.new }
     ensures stands { AllStand wishes.now.cluster wishes.now.cells table.now.entries line.old.pairs tree.old → AllStand wishes.now.cluster wishes.now.cells table.now.entries line.new.pairs tree.new }
+    ensures none { result ≡ false → (u : ℕ) → u < length (get_or wishes.now.cells app.0 []) → nat_lt 0 (out_of (asks_in wishes.now.cells) table.now.entries app.0 u) ≡ true → has_pair (app.0, u) line.old.pairs ≡ true }
 {
+    let mut begins = false;
     for number in 0..wishes.units(app) as u8 {
         let unit = UnitNo(number);
+        let waits = line.has(app.0, number);
         if wishes.outstanding(table, app, unit) > 0 {
+            begins |= !waits;
+            continue;
+        }
+        if !waits {
             continue;
         }
         leave_unit(line, tree, wishes, turn_of, table, app, unit);
     }
+    begins
 }
 
-/// The units of the line with nothing out leave it and wait no more.
+/// The units of the line with nothing out leave it and wait no more. False where no other begins to wait.
 pub(crate) fn leave(
     line: &mut Line,
     tree: &mut Tree,
@@ -109,7 +156,7 @@ pub(crate) fn leave(
     turn_of: &Vec<u64>,
     calm: &Calm,
     table: &GrantTable,
-)
+) -> bool
     requires level { AreLevel wishes.now.cluster (job_at wishes.now.cells) table.now }
     requires admitted { AreAdmitted wishes.now.cells line.old.pairs }
     requires places { length turn_of.now.items ≡ unit_places }
@@ -121,17 +168,21 @@ pub(crate) fn leave(
     ensures room { line.new.room ≡ line.old.room }
     ensures holds { HoldsLine wishes.now.cluster wishes.now.cells line.new.pairs turn_of.now.items tree.new }
     ensures stands { AllStand wishes.now.cluster wishes.now.cells table.now.entries line.old.pairs tree.old → AllStand wishes.now.cluster wishes.now.cells table.now.entries line.new.pairs tree.new }
+    ensures none { result ≡ false → (a u : ℕ) → get_or calm.now a false ≡ false → u < length (get_or wishes.now.cells a []) → nat_lt 0 (out_of (asks_in wishes.now.cells) table.now.entries a u) ≡ true → has_pair (a, u) line.new.pairs ≡ true }
 {
     let _wishes = wishes.cluster();
     let low = calm.low();
     let high = calm.high();
+    let mut begins = false;
     for number in low..high {
         let app = AppNo(number);
         if calm.is_calm(app) {
             continue;
         }
-        leave_units(line, tree, wishes, turn_of, table, app);
+        let one = leave_units(line, tree, wishes, turn_of, table, app);
+        begins |= one;
     }
+    begins
 }
 
 // The units of one job that begin to wait go last, in their order.
@@ -156,18 +207,22 @@ fn join_units(line: &mut Line, wishes: &Wishes, table: &GrantTable, app: AppNo)
     }
 }
 
-/// The units that begin to wait go last, in the order of job and unit.
-pub(crate) fn join(line: &mut Line, wishes: &Wishes, calm: &Calm, table: &GrantTable)
+/// The units that begin to wait go last, in the order of job and unit. Nobody is looked at where none begins.
+pub(crate) fn join(line: &mut Line, wishes: &Wishes, calm: &Calm, table: &GrantTable, begins: bool)
     requires level { AreLevel wishes.now.cluster (job_at wishes.now.cells) table.now }
     requires jobs { AreJobs table.now.jobs }
     requires still { IsStill wishes.now.cells line.old.pairs calm.now table.now }
     requires admitted { AreAdmitted wishes.now.cells line.old.pairs }
     requires room { units_in_all wishes.now.cells ≤ line.old.room }
+    requires none { begins ≡ false → (a u : ℕ) → get_or calm.now a false ≡ false → u < length (get_or wishes.now.cells a []) → nat_lt 0 (out_of (asks_in wishes.now.cells) table.now.entries a u) ≡ true → has_pair (a, u) line.old.pairs ≡ true }
     ensures pairs { line.new.pairs ≡ line.old.pairs ++ filter (λ p. not (has_pair p line.old.pairs)) (waiting_in (map (λ (j : JobRecord). j.number) table.now.jobs) (unit_count (as_known table.now.jobs)) (asks_in wishes.now.cells) table.now.entries) }
     ensures admitted { AreAdmitted wishes.now.cells line.new.pairs }
     ensures room { line.old.room ≤ line.new.room }
 {
     let _wishes = wishes.cluster();
+    if !begins {
+        return;
+    }
     let low = calm.low();
     let high = calm.high();
     for number in low..high {

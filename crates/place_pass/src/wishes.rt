@@ -16,6 +16,7 @@ ghost use Rattle.place_pass.specs.DemandWalks.{IsPast, IsNextAsked};
 ghost use Rattle.place_pass.specs.Cells.{cell_of, cells_in, cells_of, cell_at, no_cell, fresh_cells, numbers_at, racks_at, taken, taken_all, is_gone, any_gone, asks_more, any_more};
 
 use crate::changes::write_changes;
+use crate::sparse::is_clear;
 use cluster_desc::Cluster;
 use fuxi_terms::limits::{MOST_JOBS, MOST_RACKS, MOST_UNITS};
 use fuxi_terms::tally_keys::{AVOID, NEAR, RACK, WANT};
@@ -199,11 +200,12 @@ impl Wishes {
     fn avoids_any(&self, app: AppNo, differing: &[bool; 8]) -> bool
         ensures { result ≡ false → (u m : ℕ) → u < length (get_or self.now.cells app.0 []) → get_or differing.now u true ≡ true → get_or (cell_at self.now.cells app.0 u).avoided m 0 ≡ 0 }
     {
+        let machines = self.cluster().machines();
         for number in 0..self.units(app) as u8 {
             if !may_differ(differing, number) {
                 continue;
             }
-            if has_some(&self.wish(app, UnitNo(number)).avoided) {
+            if !is_clear(&self.wish(app, UnitNo(number)).avoided, 0, machines) {
                 return true;
             }
         }
@@ -490,13 +492,6 @@ pub(crate) fn next_asked(demand: &Demand, passed: &mut usize, sought: &Key, end:
     (found.number, number as u32)
 }
 
-// Whether one of these numbers is not 0.
-fn has_some(numbers: &Vec<u32>) -> bool
-    ensures { result ≡ list_any (λ n. nat_lt 0 n) numbers.now.items }
-{
-    numbers.iter().any(|number| *number > 0)
-}
-
 // Writes a number. True where it is 0 and something stood there.
 pub(crate) fn put_number(numbers: &mut Vec<u32>, place: u32, number: u32) -> bool
     requires { place < length numbers.old.items }
@@ -518,6 +513,9 @@ fn clear_numbers(numbers: &mut Vec<u32>, from: u32, to: u32) -> bool
     ensures behind { (k : ℕ) → to ≤ k → get_or numbers.new.items k 0 ≡ get_or numbers.old.items k 0 }
     ensures gone { (f : ℕ → Bool) → ((k : ℕ) → from ≤ k → k < to → f k ≡ is_gone (get_or numbers.old.items k 0) 0) → list_any f (below to) ≡ (list_any f (below from) || result) }
 {
+    if is_clear(numbers, from, to) {
+        return false;
+    }
     let mut gone = false;
     for place in from..to {
         let one = put_number(numbers, place, 0);

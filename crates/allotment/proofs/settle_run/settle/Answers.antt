@@ -1,16 +1,15 @@
-use Rattle.std.proofs.Common.{◌≡◌, ◌+◌, None, Some, [], ◌∷◌, ◌++◌, List, map, sym, ◌∙◌, ap, subst}
+use Rattle.std.proofs.Common.{◌≡◌, None, Some, [], ◌∷◌, ◌++◌, List, map, sym, ◌∙◌, ap, subst}
 use Rattle.std.proofs.lemmas.List.{map-append}
-use Rattle.fuxi_terms.specs.Counts.{count}
+use Rattle.fuxi_terms.specs.Counts.{set_count}
 use Rattle.fuxi_terms.specs.Keys.{Spot, spot_cmp}
-use Rattle.fuxi_terms.specs.Tables.{with_grant}
 use Rattle.written_roles.specs.Placing.{first_in, settled}
 use Rattle.grant_table.specs.GrantTables.{TableRecord}
 use Rattle.grant_table.specs.declared.asking.Pick.{Pick}
 use Rattle.place_pass.specs.Best.{spot_of}
 use Rattle.place_pass.specs.Placers.{SeenRecord, ToldRecord, board_with}
 use Rattle.allotment.specs.PlacingReads.{IsPlacing}
-use Rattle.allotment.specs.SettlingRuns.{AreTouched}
-use Rattle.allotment.proofs.SettlingRunsLemmas.{settles_on, has_settled, touches_more}
+use Rattle.allotment.specs.SettlingRuns.{AreTouched, IsSettling}
+use Rattle.allotment.proofs.SettlingRunsLemmas.{has_settled, touches_more}
 use Rattle.allotment.proofs.settle_run.settle.Goals as goal
 
 -- an idle placer finds no pair
@@ -24,21 +23,21 @@ loop-pick-preserved g c =
     let x = spot_of c.in-Some.pick in
     let old = c.args.table.now.entries in
     let before = map spot_of c.args.picks.now.items in
-    let first : first_in (board_with s t) t.entries s.line ≡ Some x = sym c.in-Some.ensures.first in
-    let more = touches_more old t.entries before (map spot_of c.loop-pick.picks.items) x (count spot_cmp t.entries x + 1) c.loop-pick.invariant.touched in
+    let set = c.grant.ensures.set in
+    let more = touches_more old t.entries before (map spot_of c.loop-pick.picks.items) x set.number c.loop-pick.invariant.touched in
     let picks : map spot_of c.push.new.self.items ≡ map spot_of c.loop-pick.picks.items ++ x ∷ [] = ap (map spot_of) c.in_ok-push.ensures.items ∙ map-append spot_of c.loop-pick.picks.items (c.in-Some.pick ∷ []) in
     record {
       level = c.grant.ensures.level;
       sound = c.grant.ensures.sound;
       up = c.grant.ensures.up;
-      settling = λ k M is serves. settles_on t c.grant.new.table s c.grant.new.placer.seen k M x first (λ N p. c.grant.ensures.grants k N (subst (λ z. IsPlacing t z k N) (sym c.in-Some.ensures.seen) p)) (c.loop-pick.invariant.settling k M is serves);
+      settling = λ k M is serves. c.grant.ensures.settles k M (subst (λ z. IsSettling t z k M) (sym c.in-Some.ensures.seen) (c.loop-pick.invariant.settling k M is serves));
       turns = c.grant.ensures.turns ∙ ap (λ (z : SeenRecord). z.turns) c.in-Some.ensures.seen ∙ c.loop-pick.invariant.turns;
-      table = c.grant.ensures.table ∙ ap {A = TableRecord} (λ u. record u { entries = with_grant t.entries x }) c.loop-pick.invariant.table ∙ ap (λ es. record c.args.table.now { entries = es }) (sym (ap (λ (u : TableRecord). u.entries) c.grant.ensures.table));
+      table = set.is ∙ ap {A = TableRecord} (λ u. record u { entries = set_count spot_cmp t.entries x set.number }) c.loop-pick.invariant.table ∙ ap (λ es. record c.args.table.now { entries = es }) (sym (ap (λ (u : TableRecord). u.entries) set.is));
       idle = λ h. absurd (never c.in-Some.pick (c.in-Some.ensures.none (ap (λ (p : ToldRecord). p.idle) (c.loop-pick.invariant.same_placer h) ∙ h)));
       none = λ h. absurd (never c.in-Some.pick (c.in-Some.ensures.none (ap (λ (p : ToldRecord). p.idle) (c.loop-pick.invariant.same_placer h) ∙ h)));
       same_table = λ h. absurd (never c.in-Some.pick (c.in-Some.ensures.none (ap (λ (p : ToldRecord). p.idle) (c.loop-pick.invariant.same_placer h) ∙ h)));
       same_placer = λ h. absurd (never c.in-Some.pick (c.in-Some.ensures.none (ap (λ (p : ToldRecord). p.idle) (c.loop-pick.invariant.same_placer h) ∙ h)));
-      touched = subst (λ (q : List (Spot × _) × List Spot). AreTouched old q.0 before q.1) (λ i. (sym (ap (λ (u : TableRecord). u.entries) c.grant.ensures.table) i, sym picks i)) more;
+      touched = subst (λ (q : List (Spot × _) × List Spot). AreTouched old q.0 before q.1) (λ i. (sym (ap (λ (u : TableRecord). u.entries) set.is) i, sym picks i)) more;
     }
 
 pub returns-clause-settles : goal.returns-clause-settles

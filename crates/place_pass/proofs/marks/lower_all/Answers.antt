@@ -1,4 +1,4 @@
-use Rattle.std.proofs.Common.{◌≡◌, ℕ, ◌<◌, ◌≤◌, true, List, None, ◌∙◌, arith}
+use Rattle.std.proofs.Common.{◌≡◌, ℕ, ◌<◌, ◌≤◌, true, List, length, None, sym, ◌∙◌, subst, arith}
 use Rattle.std.specs.Prelude.{is_some}
 use Rattle.place_pass.specs.Bounds.{MarkRecord, mark_at, key_of, lowered_mark}
 use Rattle.place_pass.specs.PackedRanks.{no_rank, IsAbove}
@@ -13,7 +13,7 @@ passed marks number from to all few h m ge lt = none_above (mark_at marks m) 0 m
 pub loop-at-preserved : goal.loop-at-preserved
 loop-at-preserved c =
     let i = c.loop-at.invariant in
-    let first = c.args.marks.now in
+    let first = c.raise.new.self in
     let before = c.loop-at.marks in
     let n = c.next-number.result in
     let least = c.next-number.ensures.least in
@@ -32,5 +32,7 @@ returns-then-number-len-clause-marks c m lt =
     let ge = c.if-number-len.true in
     let number = c.len-in-loop-at.ensures.number in
     let long = i.long in
-    lowered_passed c.args.marks.now c.loop-at.marks c.loop-at.at c.next-number.result i.done i.left
-    (passed c.loop-at.marks c.number_of_none.result c.loop-at.at c.next-number.result c.number_of_none.ensures (let inside = c.next-number.ensures.inside in let few = c.next-number.ensures.few in omega (arith, inside, few)) c.next-number.ensures.passed) m (omega (arith, lt, ge, number, long))
+    let inside : m < length c.raise.new.self = subst (λ (xs : List MarkRecord). m < length xs) (sym c.raise.ensures) lt in
+    subst (λ (xs : List MarkRecord). mark_at c.loop-at.marks m ≡ lowered_mark (mark_at xs m)) c.raise.ensures
+    (lowered_passed c.raise.new.self c.loop-at.marks c.loop-at.at c.next-number.result i.done i.left
+    (passed c.loop-at.marks c.number_of_none.result c.loop-at.at c.next-number.result c.number_of_none.ensures (let inside = c.next-number.ensures.inside in let few = c.next-number.ensures.few in omega (arith, inside, few)) c.next-number.ensures.passed) m (omega (arith, inside, ge, number, long)))

@@ -11,6 +11,14 @@ use Rattle.place_pass.proofs.PlainLemmas.{stands_unasked}
 use Rattle.place_pass.proofs.PlacerTreesLemmas.{restood_then, marked, marked_here, marked_apart, marked_waits, racks_long}
 use Rattle.place_pass.proofs.standing.enter_machines.Goals as goal
 
+pub enter_on-requires-clause-outside : goal.enter_on-requires-clause-outside
+enter_on-requires-clause-outside c =
+    let i = c.loop-number.invariant in
+    let test = c.loop-number-test.true in
+    let end = c.machines-machines.ensures.number in
+    let k = ap (λ (x : ClusterRecord). length x.machines) c.cluster.ensures.cluster in
+    i.ahead c.loop-number.number (omega arith) ∙ c.requires.nowhere c.loop-number.number (omega (arith, test, end, k))
+
 pub loop-number-preserved : goal.loop-number-preserved
 loop-number-preserved c =
     let w = c.args.wishes.now in
@@ -18,7 +26,7 @@ loop-number-preserved c =
     let e = c.args.entry.now in
     let n = c.loop-number.number in
     let t = c.loop-number.tree in
-    let t' = c.mark_machine.new.self in
+    let t' = c.enter_on.new.tree in
     let unmet = c.is_unmet_on-unmet.result in
     let i = c.loop-number.invariant in
     let test = c.loop-number-test.true in
@@ -29,13 +37,13 @@ loop-number-preserved c =
     let least = next.least in
     let last = next.inside in
     let within : n < place_count t.racks = omega (arith, test, end, k, l) in
-    let apart = marked_apart w.cluster t t' e n unmet i.waits c.mark_machine.ensures within in
+    let apart = marked_apart w.cluster t t' e n unmet i.waits c.enter_on.ensures within in
     record {
       inside = last;
-      restood = restood_then (unit_number e.app.0 e.unit.0) c.args.tree.now t t' i.restood (marked w.cluster t t' e n unmet i.waits c.mark_machine.ensures);
-      waits = marked_waits w.cluster t t' e n unmet i.waits c.mark_machine.ensures;
+      restood = restood_then (unit_number e.app.0 e.unit.0) c.args.tree.now t t' i.restood (marked w.cluster t t' e n unmet i.waits c.enter_on.ensures);
+      waits = marked_waits w.cluster t t' e n unmet i.waits c.enter_on.ensures;
       near = λ m lt. elim (cases_eq m n) as (λ _. get_or (unit_at t' e.app.0 e.unit.0).stands m false ≡ is_unmet_on w.cells es e.app.0 e.unit.0 m) [
-        | inl q ↦ subst (λ j. get_or (unit_at t' e.app.0 e.unit.0).stands j false ≡ is_unmet_on w.cells es e.app.0 e.unit.0 j) (sym q) (marked_here w.cluster t t' e n unmet i.waits c.mark_machine.ensures within n refl ∙ c.is_unmet_on-unmet.ensures)
+        | inl q ↦ subst (λ j. get_or (unit_at t' e.app.0 e.unit.0).stands j false ≡ is_unmet_on w.cells es e.app.0 e.unit.0 j) (sym q) (marked_here w.cluster t t' e n unmet i.waits c.enter_on.ensures within n refl ∙ c.is_unmet_on-unmet.ensures)
         | inr d ↦ apart m d ∙ elim (cases_lt m n) as (λ _. get_or (unit_at t e.app.0 e.unit.0).stands m false ≡ is_unmet_on w.cells es e.app.0 e.unit.0 m) [
           | inl less ↦ i.near m less
           | inr ge ↦

@@ -10,6 +10,9 @@ use Rattle.place_pass.proofs.PlainLemmas.{stands_unasked}
 use Rattle.place_pass.proofs.PlacerTreesLemmas.{restood_then, marked, marked_here, marked_apart, marked_waits, racks_long}
 use Rattle.place_pass.proofs.standing.enter_racks.Goals as goal
 
+pub enter_within-requires-clause-outside : goal.enter_within-requires-clause-outside
+enter_within-requires-clause-outside c = let test = c.loop-number-test.true in c.loop-number.invariant.ahead c.loop-number.number (omega arith) (omega (arith, test))
+
 pub loop-number-preserved : goal.loop-number-preserved
 loop-number-preserved c =
     let w = c.args.wishes.now in
@@ -18,7 +21,7 @@ loop-number-preserved c =
     let u = c.args.entry.now.unit.0 in
     let n = c.loop-number.number in
     let t = c.loop-number.tree in
-    let t' = c.mark_rack.new.self in
+    let t' = c.enter_within.new.tree in
     let unmet = c.is_unmet_in-unmet.result in
     let i = c.loop-number.invariant in
     let place : ℕ = rack_place t.racks n in
@@ -28,15 +31,15 @@ loop-number-preserved c =
     let least = next.least in
     let last = next.inside in
     let within : place < place_count t.racks = omega (arith, test) in
-    let m = marked w.cluster t t' c.args.entry.now place unmet i.waits c.mark_rack.ensures in
-    let apart = marked_apart w.cluster t t' c.args.entry.now place unmet i.waits c.mark_rack.ensures within in
+    let m = marked w.cluster t t' c.args.entry.now place unmet i.waits c.enter_within.ensures in
+    let apart = marked_apart w.cluster t t' c.args.entry.now place unmet i.waits c.enter_within.ensures within in
     record {
       inside = last;
       restood = restood_then (unit_number a u) c.args.tree.now t t' i.restood m;
-      waits = marked_waits w.cluster t t' c.args.entry.now place unmet i.waits c.mark_rack.ensures;
+      waits = marked_waits w.cluster t t' c.args.entry.now place unmet i.waits c.enter_within.ensures;
       racks = λ r lt. (λ j. get_or (unit_at t' a u).stands (rack_place (m.racks j) r) false) ∙ elim (cases_eq r n) as (λ _. get_or (unit_at t' a u).stands (rack_place t.racks r) false ≡ is_unmet_in w.cluster w.cells es a u r) [
         | inl q ↦ subst (λ j. get_or (unit_at t' a u).stands (rack_place t.racks j) false ≡ is_unmet_in w.cluster w.cells es a u j) (sym q)
-            (marked_here w.cluster t t' c.args.entry.now place unmet i.waits c.mark_rack.ensures within place refl ∙ c.is_unmet_in-unmet.ensures)
+            (marked_here w.cluster t t' c.args.entry.now place unmet i.waits c.enter_within.ensures within place refl ∙ c.is_unmet_in-unmet.ensures)
         | inr d ↦ apart (rack_place t.racks r) (omega (arith, d)) ∙ elim (cases_lt r n) as (λ _. get_or (unit_at t a u).stands (rack_place t.racks r) false ≡ is_unmet_in w.cluster w.cells es a u r) [
           | inl less ↦ i.racks r less
           | inr ge ↦

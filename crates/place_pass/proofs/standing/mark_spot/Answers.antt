@@ -6,11 +6,11 @@ use Rattle.place_pass.proofs.CellsMatchTable.{rack_is, rack_few, rack_small}
 use Rattle.place_pass.proofs.PlacerTreesLemmas.{restood_then, marked, marked_here, marked_apart, marked_waits, racks_long}
 use Rattle.place_pass.proofs.standing.mark_spot.Goals as goal
 
-pub mark_machine-requires-clause-waits : goal.mark_machine-requires-clause-waits
-mark_machine-requires-clause-waits c = c.requires.waits.entry
+pub turn_on-requires-clause-waits : goal.turn_on-requires-clause-waits
+turn_on-requires-clause-waits c = c.requires.waits.entry
 
-pub mark_machine-requires-clause-machine : goal.mark_machine-requires-clause-machine
-mark_machine-requires-clause-machine c =
+pub turn_on-requires-clause-machine : goal.turn_on-requires-clause-machine
+turn_on-requires-clause-machine c =
     let l = racks_long c.args.wishes.now.cluster c.args.tree.now c.requires.waits.racks in
     let m = c.requires.machine in
     omega (arith, l, m)
@@ -28,11 +28,11 @@ is_unmet_in-in_rack-requires-clause-rack c =
     let m = c.requires.machine in
     rack_few c.cluster.result.now c.args.table.now.cluster c.cluster.ensures.cluster c.cluster.ensures.sound.valid c.args.machine.0 (omega (arith, k, m)) c.machine.result.now c.machine.ensures
 
-pub mark_rack-requires-clause-waits : goal.mark_rack-requires-clause-waits
-mark_rack-requires-clause-waits c = (marked_waits c.args.wishes.now.cluster c.args.tree.now c.mark_machine.new.self c.args.entry.now c.args.machine.0 c.is_unmet_on-unmet.result c.requires.waits c.mark_machine.ensures).entry
+pub turn_within-requires-clause-waits : goal.turn_within-requires-clause-waits
+turn_within-requires-clause-waits c = (marked_waits c.args.wishes.now.cluster c.args.tree.now c.turn_on.new.tree c.args.entry.now c.args.machine.0 c.is_unmet_on-unmet.result c.requires.waits c.turn_on.ensures).entry
 
-pub mark_rack-requires-clause-rack : goal.mark_rack-requires-clause-rack
-mark_rack-requires-clause-rack c =
+pub turn_within-requires-clause-rack : goal.turn_within-requires-clause-rack
+turn_within-requires-clause-rack c =
     let k = ap (λ (x : ClusterRecord). length x.machines) c.requires.cluster in
     let m = c.requires.machine in
     rack_few c.cluster.result.now c.args.table.now.cluster c.cluster.ensures.cluster c.cluster.ensures.sound.valid c.args.machine.0 (omega (arith, k, m)) c.machine.result.now c.machine.ensures
@@ -41,10 +41,10 @@ pub returns-clause-restood : goal.returns-clause-restood
 returns-clause-restood c =
     let cl = c.args.wishes.now.cluster in
     let e = c.args.entry.now in
-    let one = marked cl c.args.tree.now c.mark_machine.new.self e c.args.machine.0 c.is_unmet_on-unmet.result c.requires.waits c.mark_machine.ensures in
-    let waits = marked_waits cl c.args.tree.now c.mark_machine.new.self e c.args.machine.0 c.is_unmet_on-unmet.result c.requires.waits c.mark_machine.ensures in
-    let two = marked cl c.mark_machine.new.self c.mark_rack.new.self e (rack_place c.mark_machine.new.self.racks c.machine.result.now.rack.0) c.is_unmet_in-in_rack.result waits c.mark_rack.ensures in
-    restood_then (unit_number e.app.0 e.unit.0) c.args.tree.now c.mark_machine.new.self c.mark_rack.new.self one two
+    let one = marked cl c.args.tree.now c.turn_on.new.tree e c.args.machine.0 c.is_unmet_on-unmet.result c.requires.waits c.turn_on.ensures in
+    let waits = marked_waits cl c.args.tree.now c.turn_on.new.tree e c.args.machine.0 c.is_unmet_on-unmet.result c.requires.waits c.turn_on.ensures in
+    let two = marked cl c.turn_on.new.tree c.turn_within.new.tree e (rack_place c.turn_on.new.tree.racks c.machine.result.now.rack.0) c.is_unmet_in-in_rack.result waits c.turn_within.ensures in
+    restood_then (unit_number e.app.0 e.unit.0) c.args.tree.now c.turn_on.new.tree c.turn_within.new.tree one two
 
 pub returns-clause-spot : goal.returns-clause-spot
 returns-clause-spot c =
@@ -53,13 +53,13 @@ returns-clause-spot c =
     let m = c.args.machine.0 in
     let r = c.machine.result.now.rack.0 in
     let t = c.args.tree.now in
-    let t1 = c.mark_machine.new.self in
-    let t2 = c.mark_rack.new.self in
+    let t1 = c.turn_on.new.tree in
+    let t2 = c.turn_within.new.tree in
     let w = c.requires.waits in
     let unmet = c.is_unmet_on-unmet.result in
     let in_rack = c.is_unmet_in-in_rack.result in
-    let one = marked cl t t1 e m unmet w c.mark_machine.ensures in
-    let w1 = marked_waits cl t t1 e m unmet w c.mark_machine.ensures in
+    let one = marked cl t t1 e m unmet w c.turn_on.ensures in
+    let w1 = marked_waits cl t t1 e m unmet w c.turn_on.ensures in
     let there = c.requires.machine in
     let k = ap (λ (x : ClusterRecord). length x.machines) c.requires.cluster in
     let l = racks_long cl t w.racks in
@@ -70,8 +70,8 @@ returns-clause-spot c =
     let at_machine : m < place_count t.racks = omega (arith, there, l) in
     let at_rack : rack_place t1.racks r < place_count t1.racks = omega (arith, rack, small, same_rack) in
     record {
-      near = marked_apart cl t1 t2 e (rack_place t1.racks r) in_rack w1 c.mark_rack.ensures at_rack m (omega (arith, there, l, l1)) ∙ marked_here cl t t1 e m unmet w c.mark_machine.ensures at_machine m refl ∙ c.is_unmet_on-unmet.ensures;
-      rack = marked_here cl t1 t2 e (rack_place t1.racks r) in_rack w1 c.mark_rack.ensures at_rack (rack_place t.racks (rack_of cl m)) (omega (arith, l1, rack)) ∙ c.is_unmet_in-in_rack.ensures
+      near = marked_apart cl t1 t2 e (rack_place t1.racks r) in_rack w1 c.turn_within.ensures at_rack m (omega (arith, there, l, l1)) ∙ marked_here cl t t1 e m unmet w c.turn_on.ensures at_machine m refl ∙ c.is_unmet_on-unmet.ensures;
+      rack = marked_here cl t1 t2 e (rack_place t1.racks r) in_rack w1 c.turn_within.ensures at_rack (rack_place t.racks (rack_of cl m)) (omega (arith, l1, rack)) ∙ c.is_unmet_in-in_rack.ensures
           ∙ ap (is_unmet_in cl c.args.wishes.now.cells c.args.table.now.entries e.app.0 e.unit.0) rack;
-      rest = λ place d f. marked_apart cl t1 t2 e (rack_place t1.racks r) in_rack w1 c.mark_rack.ensures at_rack place (omega (arith, f, l1, rack)) ∙ marked_apart cl t t1 e m unmet w c.mark_machine.ensures at_machine place d;
+      rest = λ place d f. marked_apart cl t1 t2 e (rack_place t1.racks r) in_rack w1 c.turn_within.ensures at_rack place (omega (arith, f, l1, rack)) ∙ marked_apart cl t t1 e m unmet w c.turn_on.ensures at_machine place d;
     }

@@ -7,7 +7,7 @@ use Rattle.fuxi_terms.specs.Jobs.{unit_count}
 use Rattle.fuxi_terms.specs.Keys.{Pair}
 use Rattle.fuxi_terms.specs.Lists.{below}
 use Rattle.fuxi_terms.specs.Numbers.{has_number}
-use Rattle.fuxi_terms.proofs.Booleans.{and_false, both_true, number_is, or_false}
+use Rattle.fuxi_terms.proofs.Booleans.{and_false, and_true, both_true, number_is, or_false}
 use Rattle.written_roles.specs.Masters.{out_of}
 use Rattle.written_roles.specs.Placing.{has_pair, waiting_in}
 use Rattle.grant_table.specs.GrantTables.{as_known}
@@ -15,10 +15,23 @@ use Rattle.place_pass.specs.Cells.{asks_in}
 use Rattle.place_pass.specs.WaitingLines.{same_pair, waiting_of}
 use Rattle.place_pass.proofs.CellsLemmas.{placed}
 use Rattle.place_pass.proofs.CellsMatchTable.{count_is}
-use Rattle.place_pass.proofs.NumberedLemmas.{none_had}
+use Rattle.place_pass.proofs.NumberedLemmas.{none_had, none_joined}
 use Rattle.place_pass.proofs.WaitingLinesLemmas.{any_append, append_nil, has_filter, has_flat, known_number}
 use Rattle.place_pass.proofs.StillLemmas.{calm_waits, filter_alike, one_job_more, paired_same}
 use Rattle.place_pass.proofs.waiting.join.Goals as goal
+
+pub returns-then-not-begins-clause-pairs : goal.returns-then-not-begins-clause-pairs
+returns-then-not-begins-clause-pairs c =
+    let old = c.args.line.now.pairs in
+    let t = c.args.table.now in
+    let w = c.args.wishes.now in
+    let units = unit_count (as_known t.jobs) in
+    sym (ap (λ xs. old ++ xs) (none_joined old (map (λ (j : JobRecord). j.number) t.jobs) units (asks_in w.cells) t.entries (λ a u lt some.
+    let out : nat_lt 0 (out_of (asks_in w.cells) t.entries a u) ≡ true = grind (arith, nat_tests, some) in
+    elim (get_or c.args.calm.now a false) as (λ b. get_or c.args.calm.now a false ≡ b → has_pair (a, u) old ≡ true) [
+      | true ↦ λ calm. c.requires.still.still a u calm ∙ and_true (nat_lt u (units a)) _ (grind (arith, nat_tests, lt)) out
+      | false ↦ λ told. let count = count_is w.cluster w.cells t c.requires.level a in c.requires.none c.if-not-begins.true a u told (omega (arith, lt, count)) out
+    ] refl)) ∙ append_nil old)
 
 pub loop-number-init : goal.loop-number-init
 loop-number-init c =

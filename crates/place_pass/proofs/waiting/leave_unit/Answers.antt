@@ -12,7 +12,7 @@ use Rattle.place_pass.specs.Bounds.{turn_at}
 use Rattle.place_pass.specs.Cells.{asks_in}
 use Rattle.place_pass.specs.PlacerTrees.{HoldsLine, AllStand}
 use Rattle.place_pass.proofs.CellsLemmas.{placed}
-use Rattle.place_pass.proofs.FlagsTellWhoWaits.{all_stay}
+use Rattle.place_pass.proofs.FlagsTellWhoWaits.{all_stay, place_inside}
 use Rattle.place_pass.proofs.WaitingLinesLemmas.{pair_self}
 use Rattle.place_pass.proofs.PlacerTreesLemmas.{holds_left, left_others, admitted_in, may_wait, turn_apart, stands_on}
 use Rattle.place_pass.proofs.StandsAfterChange.{others_in, has_others, apart_from}
@@ -50,17 +50,17 @@ refresh-requires-clause-entry c =
     subst (MayWait c.args.tree.now) (sym c.entry_for-entry.ensures) (may_wait w.cluster w.cells (λ p. has_pair p line) c.args.turn_of.now.items c.args.tree.now a u c.requires.holds small.0 small.1
     (λ b v x e. turn_apart (λ (p : Pair). turn_at c.args.turn_of.now.items p.0 p.1) line (a, u) (b, v) c.requires.rises there x e))
 
-pub remove-requires-clause-app : goal.remove-requires-clause-app
-remove-requires-clause-app c = (placed c.args.wishes.now.cluster c.args.wishes.now.cells c.args.wishes.now.opened c.cluster-wishes.ensures.sound c.args.app.0 c.args.unit.0 c.requires.here).0
+pub place_of-place-requires-clause-there : goal.place_of-place-requires-clause-there
+place_of-place-requires-clause-there c = sym c.has.ensures ∙ c.if-not-has.false
 
-pub remove-requires-clause-unit : goal.remove-requires-clause-unit
-remove-requires-clause-unit c = (placed c.args.wishes.now.cluster c.args.wishes.now.cells c.args.wishes.now.opened c.cluster-wishes.ensures.sound c.args.app.0 c.args.unit.0 c.requires.here).1
+pub remove-requires : goal.remove-requires
+remove-requires c = place_inside c.args.line.now.pairs c.place_of-place.result (c.args.app.0, c.args.unit.0) c.place_of-place.ensures
 
 pub returns-clause-pairs : goal.returns-clause-pairs
 returns-clause-pairs c =
     let line = c.args.line.now.pairs in
     let test : nat_lt 0 (out_of (asks_in c.args.wishes.now.cells) c.args.table.now.entries c.args.app.0 c.args.unit.0) ≡ false = let e = c.outstanding.ensures in let z = c.if-outstanding-gt0.false in grind (arith, nat_tests, e, z) in
-    c.remove.ensures.pairs ∙ ap (λ b. cond b line (others_in c.args.app.0 c.args.unit.0 line)) (sym test)
+    c.remove.ensures.pairs (c.args.app.0, c.args.unit.0) c.place_of-place.ensures ∙ ap (λ b. cond b line (others_in c.args.app.0 c.args.unit.0 line)) (sym test)
 
 -- of the others the line keeps each
 others_same : (c : goal.After-remove) (b v : ℕ) → (nat_eq b c.args.app.0 && nat_eq v c.args.unit.0) ≡ false → has_pair (b, v) (others_in c.args.app.0 c.args.unit.0 c.args.line.now.pairs) ≡ has_pair (b, v) c.args.line.now.pairs
@@ -74,7 +74,7 @@ returns-clause-holds c =
     let line = c.args.line.now.pairs in
     let a = c.args.app.0 in let u = c.args.unit.0 in
     let t = c.args.tree.now in
-    subst (λ (l : List Pair). HoldsLine w.cluster w.cells l c.args.turn_of.now.items c.refresh.new.self) (sym c.remove.ensures.pairs)
+    subst (λ (l : List Pair). HoldsLine w.cluster w.cells l c.args.turn_of.now.items c.refresh.new.self) (sym (c.remove.ensures.pairs (c.args.app.0, c.args.unit.0) c.place_of-place.ensures))
     (holds_left w.cluster w.cells (λ p. has_pair p line) (λ p. has_pair p (others_in a u line)) c.args.turn_of.now.items t c.refresh.new.self a u c.requires.holds (placed w.cluster w.cells w.opened c.cluster-wishes.ensures.sound a u c.requires.here).1 c.requires.here
     (others_same c) (has_others a u line (a, u) ∙ ap (λ x. has_pair (a, u) line && not x) (pair_self (a, u)) ∙ and_false (has_pair (a, u) line))
     (c.refresh.ensures ∙ ap (λ (e : Entry). refreshed t e false) c.entry_for-entry.ensures))
@@ -87,7 +87,7 @@ returns-clause-stands c es all =
     let t = c.args.tree.now in
     let lu = (placed w.cluster w.cells w.opened c.cluster-wishes.ensures.sound a u c.requires.here).1 in
     let made = c.refresh.ensures ∙ ap (λ (e : Entry). refreshed t e false) c.entry_for-entry.ensures in
-    subst (λ (l : List Pair). AllStand w.cluster w.cells es l c.refresh.new.self) (sym c.remove.ensures.pairs) (λ b v has.
+    subst (λ (l : List Pair). AllStand w.cluster w.cells es l c.refresh.new.self) (sym (c.remove.ensures.pairs (c.args.app.0, c.args.unit.0) c.place_of-place.ensures)) (λ b v has.
     let x = apart_from a u line (b, v) has in
     stands_on w.cluster w.cells es b v t c.refresh.new.self (ap (λ (y : TreeRecord). y.racks) made)
     (left_others w.cluster w.cells (λ p. has_pair p line) (λ p. has_pair p (others_in a u line)) c.args.turn_of.now.items t c.refresh.new.self a u c.requires.holds lu c.requires.here (others_same c) made b v (c.requires.holds.few b v x.0) x.1) (all b v x.0))

@@ -1,4 +1,4 @@
-use Rattle.std.proofs.Common.{◌≡◌, ◌≢◌, ℕ, ◌<◌, Bool, true, false, length, length-set, get_or, refl, sym, ◌∙◌, ap, subst, arith, inl, inr}
+use Rattle.std.proofs.Common.{◌≡◌, ◌≢◌, ℕ, zero, suc, ◌+◌, ◌-◌, ◌<◌, ◌≤◌, Bool, true, false, length, length-set, get_or, refl, sym, ◌∙◌, ap, subst, arith, inl, inr}
 use Rattle.std.specs.Prelude.{◌||◌}
 use Rattle.std.specs.List.{list_any}
 use Rattle.std.proofs.lemmas.Bool.{cases_eq}
@@ -8,6 +8,26 @@ use Rattle.fuxi_terms.proofs.Booleans.{or_false}
 use Rattle.place_pass.specs.Cells.{is_gone}
 use Rattle.place_pass.proofs.DemandWalksLemmas.{one_more}
 use Rattle.place_pass.proofs.wishes.clear_numbers.Goals as goal
+
+-- nothing is gone where 0 stands everywhere
+none_more : (f : ℕ → Bool) (n k : ℕ) → ((j : ℕ) → n ≤ j → j < n + k → f j ≡ false) → list_any f (below (n + k)) ≡ list_any f (below n)
+none_more f n zero h = ap (λ j. list_any f (below j)) (let e : n + 0 ≡ n = omega arith in e)
+none_more f n (suc k) h =
+    ap (λ j. list_any f (below j)) (let e : n + suc k ≡ (n + k) + 1 = omega arith in e) ∙ one_more f (n + k)
+    ∙ ap (λ b. list_any f (below (n + k)) || b) (h (n + k) (omega arith) (omega arith)) ∙ or_false (list_any f (below (n + k)))
+    ∙ none_more f n k (λ j ge lt. h j ge (omega (arith, lt)))
+
+pub returns-then-is_clear-clause-zero : goal.returns-then-is_clear-clause-zero
+returns-then-is_clear-clause-zero c k ge lt = c.is_clear.ensures c.if-is_clear.true k ge lt
+
+pub returns-then-is_clear-clause-gone : goal.returns-then-is_clear-clause-gone
+returns-then-is_clear-clause-gone c f h =
+    let from = c.args.from in
+    let to = c.args.to in
+    let order = c.requires.order in
+    let far : from + (to - from) ≡ to = omega (arith, order) in
+    let none = λ (j : ℕ) (ge : from ≤ j) (lt : j < from + (to - from)). let l : j < to = omega (arith, lt, far) in h j ge l ∙ ap (λ n. is_gone n 0) (c.is_clear.ensures c.if-is_clear.true j ge l) in
+    subst (λ n. list_any f (below n) ≡ list_any f (below from)) far (none_more f from (to - from) none) ∙ sym (or_false (list_any f (below from)))
 
 pub loop-place-init : goal.loop-place-init
 loop-place-init c = record {

@@ -24,20 +24,23 @@ use Rattle.place_pass.proofs.PlacersLemmas.{kept_is, lined_has}
 use Rattle.place_pass.proofs.Turns.{few_begin}
 use Rattle.place_pass.proofs.placer.Placer.line_up.Goals as goal
 
-pub leave-requires-clause-level : goal.leave-requires-clause-level
+pub leave-begins-requires-clause-level : goal.leave-begins-requires-clause-level
 unfolding IsLevelWith
-leave-requires-clause-level c = (subst (λ (p : PlacerRecord). IsLevelWith p c.args.table.now) (sym c.self.view_is) c.requires.level).level
+leave-begins-requires-clause-level c = (subst (λ (p : PlacerRecord). IsLevelWith p c.args.table.now) (sym c.self.view_is) c.requires.level).level
 
-pub leave-requires-clause-still : goal.leave-requires-clause-still
+pub leave-begins-requires-clause-still : goal.leave-begins-requires-clause-still
 unfolding IsLevelWith
-leave-requires-clause-still c = (subst (λ (p : PlacerRecord). IsLevelWith p c.args.table.now) (sym c.self.view_is) c.requires.level).still
+leave-begins-requires-clause-still c = (subst (λ (p : PlacerRecord). IsLevelWith p c.args.table.now) (sym c.self.view_is) c.requires.level).still
 
 pub join-requires-clause-level : goal.join-requires-clause-level
 unfolding IsLevelWith
 join-requires-clause-level c = (subst (λ (p : PlacerRecord). IsLevelWith p c.args.table.now) (sym c.self.view_is) c.requires.level).level
 
 pub join-requires-clause-room : goal.join-requires-clause-room
-join-requires-clause-room c = let room = c.self.invariant.room in let same = c.leave.ensures.room in omega (arith, room, same)
+join-requires-clause-room c = let room = c.self.invariant.room in let same = c.leave-begins.ensures.room in omega (arith, room, same)
+
+pub join-requires-clause-none : goal.join-requires-clause-none
+join-requires-clause-none c = c.leave-begins.ensures.none
 
 pub join-requires-clause-still : goal.join-requires-clause-still
 unfolding IsLevelWith
@@ -45,17 +48,17 @@ join-requires-clause-still c =
     let w = c.self.inside.wishes in
     let t = c.args.table.now in
     let old = subst (λ (p : PlacerRecord). IsLevelWith p t) (sym c.self.view_is) c.requires.level in
-    subst (λ (l : List Pair). IsStill w.cells l c.self.inside.calm t) (sym c.leave.ensures.pairs) (still_left w.cells c.self.inside.line.pairs c.self.inside.calm t old.still)
+    subst (λ (l : List Pair). IsStill w.cells l c.self.inside.calm t) (sym c.leave-begins.ensures.pairs) (still_left w.cells c.self.inside.line.pairs c.self.inside.calm t old.still)
 
 pub enter_line-requires-clause-level : goal.enter_line-requires-clause-level
 unfolding IsLevelWith
 enter_line-requires-clause-level c = (subst (λ (p : PlacerRecord). IsLevelWith p c.args.table.now) (sym c.self.view_is) c.requires.level).level
 
 -- the line is brought up to date before the tree is told
-lined_up : (c : goal.After-enter_line-arg-4-1) → IsLinedUp c.self.inside.line.pairs c.leave.new.line.pairs (waiting_in (map (λ (j : JobRecord). j.number) c.args.table.now.jobs) (unit_count (as_known c.args.table.now.jobs)) (asks_in c.self.inside.wishes.cells) c.args.table.now.entries) c.join.new.line.pairs c.len-stayed.result
+lined_up : (c : goal.After-enter_line-arg-4-1) → IsLinedUp c.self.inside.line.pairs c.leave-begins.new.line.pairs (waiting_in (map (λ (j : JobRecord). j.number) c.args.table.now.jobs) (unit_count (as_known c.args.table.now.jobs)) (asks_in c.self.inside.wishes.cells) c.args.table.now.entries) c.join.new.line.pairs c.len-stayed.result
     (λ p. nat_lt 0 (out_of (asks_in c.self.inside.wishes.cells) c.args.table.now.entries p.0 p.1)) (record { marks = c.self.inside.marks; turn_of = c.self.inside.turn_of.items; held = c.self.inside.held.items }) c.number_from.new.turn_of.items
 lined_up c = record {
-  kept = c.leave.ensures.pairs;
+  kept = c.leave-begins.ensures.pairs;
   waits = waiting_waits (map (λ (j : JobRecord). j.number) c.args.table.now.jobs) (unit_count (as_known c.args.table.now.jobs)) (asks_in c.self.inside.wishes.cells) c.args.table.now.entries;
   appended = c.join.ensures.pairs;
   long = c.len-stayed.ensures.number;
@@ -73,29 +76,29 @@ pub enter_line-requires-clause-inside : goal.enter_line-requires-clause-inside
 enter_line-requires-clause-inside c = front_inside (lined_up c)
 
 pub enter_line-requires-clause-holds : goal.enter_line-requires-clause-holds
-enter_line-requires-clause-holds c = front_holds (lined_up c) c.self.inside.wishes.cluster c.self.inside.wishes.cells c.leave.new.tree c.leave.ensures.holds
+enter_line-requires-clause-holds c = front_holds (lined_up c) c.self.inside.wishes.cluster c.self.inside.wishes.cells c.leave-begins.new.tree c.leave-begins.ensures.holds
 
 pub enter_line-requires-clause-stands : goal.enter_line-requires-clause-stands
 unfolding IsLevelWith
 enter_line-requires-clause-stands c =
     let old = subst (λ (p : PlacerRecord). IsLevelWith p c.args.table.now) (sym c.self.view_is) c.requires.level in
     let w = c.self.inside.wishes in
-    subst (λ (l : List Pair). AllStand w.cluster w.cells c.args.table.now.entries l c.leave.new.tree) (sym (front_is (lined_up c))) (c.leave.ensures.stands old.stands)
+    subst (λ (l : List Pair). AllStand w.cluster w.cells c.args.table.now.entries l c.leave-begins.new.tree) (sym (front_is (lined_up c))) (c.leave-begins.ensures.stands old.stands)
 
 -- and when it was told
-lined_then : (c : goal.After-self-2-1) → IsLinedUp c.self.inside.line.pairs c.leave.new.line.pairs (waiting_in (map (λ (j : JobRecord). j.number) c.args.table.now.jobs) (unit_count (as_known c.args.table.now.jobs)) (asks_in c.self.inside.wishes.cells) c.args.table.now.entries) c.join.new.line.pairs c.len-stayed.result
+lined_then : (c : goal.After-self-2-1) → IsLinedUp c.self.inside.line.pairs c.leave-begins.new.line.pairs (waiting_in (map (λ (j : JobRecord). j.number) c.args.table.now.jobs) (unit_count (as_known c.args.table.now.jobs)) (asks_in c.self.inside.wishes.cells) c.args.table.now.entries) c.join.new.line.pairs c.len-stayed.result
     (λ p. nat_lt 0 (out_of (asks_in c.self.inside.wishes.cells) c.args.table.now.entries p.0 p.1)) (record { marks = c.self.inside.marks; turn_of = c.self.inside.turn_of.items; held = c.self.inside.held.items }) c.number_from.new.turn_of.items
 lined_then c =
     let waits = waiting_waits (map (λ (j : JobRecord). j.number) c.args.table.now.jobs) (unit_count (as_known c.args.table.now.jobs)) (asks_in c.self.inside.wishes.cells) c.args.table.now.entries in
     let small = λ (a u : ℕ) (has : has_pair (a, u) c.self.inside.line.pairs ≡ true). let place = place_of (a, u) c.self.inside.line.pairs has in unit_small c.self.inside.wishes.cells c.self.inside.line.pairs place.place (a, u) c.self.invariant.admitted place.at c.cluster-wishes.ensures.sound.few in
-    record { kept = c.leave.ensures.pairs; waits = waits; appended = c.join.ensures.pairs; long = c.len-stayed.ensures.number; small = small; others = λ a u lu out. c.number_from.ensures.others a u lu out }
+    record { kept = c.leave-begins.ensures.pairs; waits = waits; appended = c.join.ensures.pairs; long = c.len-stayed.ensures.number; small = small; others = λ a u lu out. c.number_from.ensures.others a u lu out }
 
 pub invariant_of-self : goal.invariant_of-self
 unfolding IsLevelWith
 invariant_of-self c =
     let old = subst (λ (p : PlacerRecord). IsLevelWith p c.args.table.now) (sym c.self.view_is) c.requires.level in
     let room = c.self.invariant.room in
-    let same = c.leave.ensures.room in
+    let same = c.leave-begins.ensures.room in
     let more = c.join.ensures.room in
     record {
       admitted = c.join.ensures.admitted;
@@ -119,7 +122,7 @@ line_is c =
     let r : Pair → Bool = λ p. not (has_pair p line) in
     let l = (subst (λ (p : PlacerRecord). IsLevelWith p t) (sym c.self.view_is) c.requires.level).level in
     let is = c.admitted_jobs.ensures.numbers t.jobs c.cluster-cluster.ensures.sound.in_order in
-    let kept = c.leave.ensures.pairs ∙ kept_is w.cluster w.cells t l (job_numbers (as_known t.jobs)) is line c.self.invariant.admitted in
+    let kept = c.leave-begins.ensures.pairs ∙ kept_is w.cluster w.cells t l (job_numbers (as_known t.jobs)) is line c.self.invariant.admitted in
     let joined = ap (λ ns. filter r (waiting_in ns (unit_count (as_known t.jobs)) (asks_in w.cells) t.entries)) (sym is) in
     lined_is (lined_then c) ∙ (λ i. kept i ++ joined i)
 
@@ -131,7 +134,7 @@ returns-clause-seen c =
     let r : Pair → Bool = λ p. not (has_pair p line) in
     let is = c.admitted_jobs.ensures.numbers t.jobs c.cluster-cluster.ensures.sound.in_order in
     let all = waiting_in (map (λ (j : JobRecord). j.number) t.jobs) (unit_count (as_known t.jobs)) (asks_in w.cells) t.entries in
-    let long = ap length (lined_is (lined_then c)) ∙ length-append c.leave.new.line.pairs (filter r all) in
+    let long = ap length (lined_is (lined_then c)) ∙ length-append c.leave-begins.new.line.pairs (filter r all) in
     let n = c.len.ensures.number in
     let s = c.len-stayed.ensures.number in
     let joined : c.len.result - c.len-stayed.result ≡ length (filter r all) = omega (arith, long, n, s) in
@@ -168,7 +171,7 @@ returns-clause-level c =
     let waits : Pair → Bool = λ p. nat_lt 0 (out_of (asks_in w.cells) t.entries p.0 p.1) in
     let all = waiting_in (map (λ (j : JobRecord). j.number) t.jobs) (unit_count (as_known t.jobs)) (asks_in w.cells) t.entries in
     let joined = filter r all in
-    let front = c.leave.new.line.pairs in
+    let front = c.leave-begins.new.line.pairs in
     let pairs : c.join.new.line.pairs ≡ front ++ joined = lined_is (lined_then c) in
     let n = c.len.ensures.number in
     let s = c.len-stayed.ensures.number in
@@ -186,9 +189,9 @@ returns-clause-level c =
           let b = both_true c.self.inside.forgotten _ f in
           let test = b.1 in
           let was = c.len-before.ensures.number in
-          let keeps = ap length c.leave.ensures.pairs in
+          let keeps = ap length c.leave-begins.ensures.pairs in
           let all_stay : length (filter waits line) ≡ length line = grind (arith, nat_tests, test, was, s, keeps) in
-          let same : front ≡ line = c.leave.ensures.pairs ∙ filter_whole waits line all_stay in
+          let same : front ≡ line = c.leave-begins.ensures.pairs ∙ filter_whole waits line all_stay in
           let still = λ (a u : ℕ) (has : has_pair (a, u) line ≡ true). ap (has_pair (a, u)) pairs ∙ any_append (same_pair (a, u)) front joined ∙ ap (λ x. x || has_pair (a, u) joined) (ap (has_pair (a, u)) same ∙ has) in
           record { clear = λ allowed m g o. (old.clear e b.0).clear (λ a u has. allowed a u (still a u has)) m g o };
       quiet = λ e. record {
