@@ -13,6 +13,7 @@ pub mod EntriesListed
 pub mod Admitted
 pub mod UnitSteps
 pub mod ShelvesLemmas
+pub mod StockLemmas
 pub mod Takable
 pub mod NeedsAsWritten
 pub mod MachineRoomsLemmas

@@ -19,7 +19,7 @@ use Rattle.preempt.specs.declared.entry.GroupUse.{GroupUse}
 use Rattle.preempt.specs.declared.entry.Sums.{Sums}
 use Rattle.preempt.specs.declared.room.Rooms.{Rooms}
 use Rattle.preempt.specs.declared.shelf.Shelf.{Shelf}
-use Rattle.preempt.specs.Given.{board_of, no_group, written, IsEntry, AreGroups}
+use Rattle.preempt.specs.Given.{board_of, no_group, written, IsEntry, AreGroups, AreSpared}
 use Rattle.preempt.specs.GrantNumbers.{lower_in, spared_in}
 use Rattle.preempt.specs.GroupSums.{no_sums}
 use Rattle.preempt.specs.MachineRooms.{within_at, IsRoom, IsNarrower, AreRooms, IsFor, IsPlaceFor, AreRoomsFor}
@@ -32,20 +32,20 @@ use Rattle.preempt.proofs.UnitSteps.{got}
 
 -- ---- one machine
 -- what may be taken on a machine of the served group, and of all, and what that leaves of what the machine has and of what the group may use
-pub record AreLeft (groups : List GroupUse) (shelf : Shelf) (n : Need) (room : List ℕ) : Type 0 where
+pub record AreLeft (groups : List GroupUse) (shelf : Shelf) (spared : List Entry) (n : Need) (room : List ℕ) : Type 0 where
   pub lower : List ℕ
   pub all : List ℕ
   pub used : List ℕ
   pub lower_are : (i : ℕ) → i < 8 → slice_index lower i ≡ lower_in n i shelf.entries.now
-  pub all_are : (i : ℕ) → i < 8 → slice_index all i ≡ slice_index lower i + spared_in n i shelf.spared.items
+  pub all_are : (i : ℕ) → i < 8 → slice_index all i ≡ slice_index lower i + spared_in n i spared
   pub used_are : (i : ℕ) → i < 8 → slice_index used i ≡ slice_index shelf.has i - slice_index shelf.free i
   pub room_are : (i : ℕ) → i < n.resources → slice_index room i ≡ min ((slice_index shelf.has i + slice_index all i) - slice_index used i)
       ((slice_index (get_or groups n.group no_group).limit i + slice_index lower i) - slice_index (get_or groups n.group no_group).used i)
 
-pub beyond_none : (t : TableRecord) (groups : List GroupUse) (m : ℕ) (shelf : Shelf) (n : Need) (room : List ℕ) (a u i : ℕ)
-    → AreGroups t groups → IsShelf t groups m shelf → AreLeft groups shelf n room → n.group < 32 → n.group ≡ group_of (as_known t.jobs) a → n.priority ≡ priority_of (as_known t.jobs) a u
+pub beyond_none : (t : TableRecord) (groups : List GroupUse) (m : ℕ) (shelf : Shelf) (spared_here : List Entry) (n : Need) (room : List ℕ) (a u i : ℕ)
+    → AreGroups t groups → IsShelf t m shelf → AreSpared t m shelf.entries.now spared_here → AreLeft groups shelf spared_here n room → n.group < 32 → n.group ≡ group_of (as_known t.jobs) a → n.priority ≡ priority_of (as_known t.jobs) a u
     → n.guaranteed ≡ is_guaranteed_in (board_of t) t.entries (spot a u m) → i < t.cluster.resources → i < 8 → i < n.resources → slice_index room i < size_at (as_known t.jobs) a u i → victims_in (board_of t) t.entries (spot a u m) ≡ None
-beyond_none t groups m shelf n room a u i are is left small group priority guaranteed lt few inside more =
+beyond_none t groups m shelf spared_here n room a u i are is spared_are left small group priority guaranteed lt few inside more =
     none_of_most (board_of t) t.entries s (ap (λ x. is_enough_in (board_of t) t.entries s x) whole ∙ by (nat_lt fits size) refl)
   where
     s : Spot
@@ -73,8 +73,8 @@ beyond_none t groups m shelf n room a u i are is left small group priority guara
     lower : slice_index left.lower i ≡ sum_by (lower_weight (board_of t) t.entries s i) entries
     lower = left.lower_are i few ∙ lower_is t m a u n i group priority shelf.entries.now is.each
 
-    spared : spared_in n i shelf.spared.items ≡ sum_by (spared_weight (board_of t) t.entries s i) (all_spared entries (board_of t) t.entries [])
-    spared = spared_is t m a u n i group guaranteed shelf.spared.items is.spared.each ∙ ap (λ es. sum_by (spared_weight (board_of t) t.entries s i) es) is.spared.counted
+    spared : spared_in n i spared_here ≡ sum_by (spared_weight (board_of t) t.entries s i) (all_spared entries (board_of t) t.entries [])
+    spared = spared_is t m a u n i group guaranteed spared_here spared_are.each ∙ ap (λ es. sum_by (spared_weight (board_of t) t.entries s i) es) spared_are.counted
         ∙ some_weigh (spared_weight (board_of t) t.entries s i) (nothing_weighs (board_of t) t.entries s i) (all_spared entries (board_of t) t.entries [])
 
     by : (b : Bool) → nat_lt fits size ≡ b → is_enough_in (board_of t) t.entries s all ≡ false

@@ -53,10 +53,10 @@ module _ (t : TableRecord) (e : Entry) (h : IsEntry t e) where
       λ k. not (nat_lt (x k) (y k)))
       ∙ ap (λ b. b && in_each t.cluster test) (sym narrow)
 
-  pub need_on : (n on : Need) (groups : List GroupUse) (m : ℕ) (s : Shelf) → IsWanted t e.app.0 e.unit.0 n → IsShelf t groups m s → t.cluster.resources ≤ 8
+  pub need_on : (n on : Need) (m : ℕ) (s : Shelf) → IsWanted t e.app.0 e.unit.0 n → IsShelf t m s → t.cluster.resources ≤ 8
       → on.resources ≡ n.resources → on.group ≡ n.group → on.priority ≡ n.priority → on.guaranteed ≡ n.guaranteed → on.has ≡ s.has → on.limit ≡ n.limit → on.allowed ≡ n.allowed
       → ((i : ℕ) → i < 8 → slice_index on.fits i ≡ slice_index s.has i - slice_index s.free i + slice_index e.size i) → IsNeed t (spot e.app.0 e.unit.0 m) on
-  need_on n on groups m s w is few resources group priority guaranteed has limit allowed fits = record {
+  need_on n on m s w is few resources group priority guaranteed has limit allowed fits = record {
     resources = resources ∙ w.resources;
     narrow = w.narrow;
     group = group ∙ w.group;

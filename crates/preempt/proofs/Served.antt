@@ -3,6 +3,7 @@ use Rattle.std.proofs.Common.{◌≡◌, ℕ, zero, suc, ◌+◌, ◌-◌, ◌<�
 use Rattle.std.proofs.lemmas.Bool.Decides.{nat_tests}
 use Rattle.fuxi_terms.specs.declared.Key.{Key}
 use Rattle.std.specs.Prelude.{◌&&◌, Option, slice_get}
+use Rattle.std.specs.Borrow.{Bor}
 use Rattle.std.specs.List.{AllByRecursion, flat_map}
 use Rattle.std.proofs.lemmas.Grind.{flat_map-append}
 use Rattle.std.proofs.lemmas.List.{append-nil, map-append}
@@ -18,7 +19,6 @@ use Rattle.written_roles.specs.Preemption.{Plan as WrittenPlan}
 use Rattle.written_roles.specs.Preemption.{victims_in, taken_in, needed_in, without_one, walk_in, may_take_in, is_enough_in, is_some_set, first_plan_in, plan_in, tried_in, by_priority_in, falling_priorities}
 use Rattle.grant_table.specs.GrantTables.{TableRecord, IsSound, as_known}
 use Rattle.preempt.specs.declared.entry.Entry.{Entry}
-use Rattle.preempt.specs.declared.shelf.Shelf.{Shelf}
 use Rattle.preempt.specs.declared.plan.Plan.{Plan}
 use Rattle.preempt.specs.declared.plan.Victim.{Victim}
 use Rattle.preempt.specs.Given.{IsEntry, board_at, board_of, pair_of}
@@ -52,9 +52,6 @@ module _ (B : Board) (asks : ℕ → Key → ℕ) (may_use : ℕ → ℕ → ℕ
       ∙ ap (λ x. elim (is_enough_in other table t x && is_some_set x) as (λ _. Option (List Spot)) [ true ↦ Some (needed_in x other table t x) | false ↦ None ]) (taken_same (walk_in B.priorities table t.machine) [])
 
 -- ---- machines
-pub shelf_at : (xs : List Shelf) (n : ℕ) (x : Shelf) → n < length xs → x ≡ get_or xs n x → slice_get xs n ≡ Some x
-shelf_at xs n x lt is = got (λ _. true) xs n x lt ∙ ap (λ y. Some y) (sym is)
-
 pairs_all : (P : Spot → Type 0) (accepts : ℕ → ℕ → ℕ → Bool) (n : ℕ) (p : Pair) → ((m : ℕ) → m < n → P (spot p.0 p.1 m)) → AllByRecursion P (pairs_to accepts n p)
 pairs_all P accepts zero p h = tt
 pairs_all P accepts (suc n) p h =
@@ -273,6 +270,10 @@ module _ (B : Board) (t : TableRecord) (usable : ℕ → ℕ → ℕ → Bool) (
 -- ---- a unit of the line that has the priority which is searched
 abbrev pub no_entry : Entry
 no_entry = record { app = record { 0 = 0 }; unit = record { 0 = 0 }; group = 0; priority = 0; count = 0; size = [] }
+
+-- and what a unit has by machine
+abbrev pub no_row : Bor (List ℕ)
+no_row = record { ref_ptr = (0, 0); now = [] }
 
 pub of_priority_at : (t : TableRecord) (n : ℕ) (es : List Entry) (k : ℕ) → k < length es → AllByRecursion (IsEntry t) es → nat_eq (get_or es k no_entry).priority n ≡ true
     → nat_eq (priority_of (as_known t.jobs) (get_or es k no_entry).app.0 (get_or es k no_entry).unit.0) n ≡ true

@@ -9,7 +9,7 @@ use Rattle.fuxi_terms.specs.Jobs.{priority_of, group_of, size_at}
 use Rattle.fuxi_terms.specs.Keys.{Spot}
 use Rattle.fuxi_terms.specs.Tables.{spot, held_on, usage_at, Table}
 use Rattle.fuxi_terms.specs.Vectors.{at_place}
-use Rattle.fuxi_terms.proofs.Alls.{all_append}
+use Rattle.fuxi_terms.proofs.Alls.{all_append, all_more}
 use Rattle.fuxi_terms.proofs.Booleans.{both_true, not_false, number_is, both_false, and_false}
 use Rattle.fuxi_terms.proofs.ByPlace.{at_place-get_or}
 use Rattle.fuxi_terms.proofs.VectorLaws.{get_or-padded}
@@ -25,9 +25,8 @@ use Rattle.preempt.specs.declared.entry.Need.{Need}
 use Rattle.preempt.specs.declared.entry.GroupUse.{GroupUse}
 use Rattle.preempt.specs.declared.shelf.Loose.{Loose}
 use Rattle.preempt.specs.declared.shelf.Loose.TheVariants.{Nobody, One, Several}
-use Rattle.preempt.specs.declared.shelf.Shelf.{Shelf}
 use Rattle.preempt.specs.Given.{board_of, no_group, written, pair_of, IsEntry, AreGroups}
-use Rattle.preempt.specs.Shelves.{spares, spares_at, is_loose, is_other_loose, IsLow, IsLoose, IsShelf, IsWanted, AreHolders, HasNoVictims, may_take_some}
+use Rattle.preempt.specs.Shelves.{spares, spares_at, is_loose, is_other_loose, IsLow, IsLoose, IsWanted, AreHolders, HasNoVictims, IsLike, IsShut, may_take, may_take_some}
 use Rattle.preempt.specs.Walks.{entry_on}
 use Rattle.preempt.proofs.CountedAsWritten.{each_same, size_is}
 use Rattle.preempt.proofs.UnitSteps.{got}
@@ -90,6 +89,18 @@ closed_singles : (P : Spot → Type 0) (m : ℕ) (es : List Entry) → AllByRecu
 closed_singles P m [] h = tt
 closed_singles P m (e ∷ es) h = all_append P (so_many e.count (spot e.app.0 e.unit.0 m)) (singles (map (written m) es)) (closed_run P e.count (spot e.app.0 e.unit.0 m) h.0) (closed_singles P m es h.1)
 
+-- the same by those alone that have grants there
+closed_held : (P : Spot → Type 0) (es : Table) (m : ℕ) (hs : List Entry) → AllByRecursion (λ (e : Entry). 0 < held_on es e.app.0 e.unit.0 m → P (spot e.app.0 e.unit.0 m)) hs → AllByRecursion P (singles (flat_map (entry_on es m) (map pair_of hs)))
+closed_held P es m [] h = tt
+closed_held P es m (e ∷ hs) h =
+    let s = spot e.app.0 e.unit.0 m in
+    let n = held_on es e.app.0 e.unit.0 m in
+    let rest = closed_held P es m hs h.1 in
+    elim (nat_lt 0 n) as (λ b. nat_lt 0 n ≡ b → AllByRecursion P (singles (cond b ((s, n) ∷ []) [] ++ flat_map (entry_on es m) (map pair_of hs)))) [
+      | true ↦ λ b. all_append P (so_many n s) (singles (flat_map (entry_on es m) (map pair_of hs))) (closed_run P n s (h.0 (grind (arith, nat_tests, b)))) rest
+      | false ↦ λ _. rest
+    ] refl
+
 closed_listed : (P : Spot → Type 0) (es : Table) (m : ℕ) (hs : List Entry) → AllByRecursion (λ (e : Entry). P (spot e.app.0 e.unit.0 m)) hs → AllByRecursion P (singles (flat_map (entry_on es m) (map pair_of hs)))
 closed_listed P es m [] h = tt
 closed_listed P es m (e ∷ hs) h =
@@ -101,17 +112,18 @@ closed_listed P es m (e ∷ hs) h =
       | false ↦ rest
     ]
 
+and_swap : (a b : Bool) → (a && b) ≡ (b && a)
+and_swap true true = refl
+and_swap true false = refl
+and_swap false true = refl
+and_swap false false = refl
+
 not_both : (loose : Loose) (g h : ℕ) → nat_eq g h ≡ false → is_loose loose g ≡ true → is_other_loose loose h ≡ false → ⊥
 not_both Nobody g h d a b = cc
 not_both Several g h d a b = cc
 not_both (One x) g h d a b = let e = number_is x g a in let f : nat_eq x h ≡ true = not_false (nat_eq x h) b in let k = number_is x h f in let t : nat_eq g h ≡ true = grind (arith, nat_tests, e, k) in cc
 
--- a need of the kind of a unit: all that tells what may be taken for it
-pub record IsLike (t : TableRecord) (s : Spot) (n : Need) : Type 0 where
-  pub group : n.group ≡ group_of (as_known t.jobs) s.job
-  pub priority : n.priority ≡ priority_of (as_known t.jobs) s.job s.unit
-  pub guaranteed : n.guaranteed ≡ is_guaranteed_in (board_of t) t.entries s
-
+-- what a unit wants is of its kind
 pub wanted_like : (t : TableRecord) (a u m : ℕ) (n : Need) → IsWanted t a u n → IsLike t (spot a u m) n
 wanted_like t a u m n w = record { group = w.group; priority = w.priority; guaranteed = w.guaranteed }
 
@@ -171,12 +183,15 @@ module _ (t : TableRecord) (groups : List GroupUse) (are : AreGroups t groups) (
   closed_all s n lowest loose [] w none h low ls = tt
   closed_all s n lowest loose (e ∷ es) w none h low ls = (closed_entry s n lowest loose e w none h.0 low.0 ls.0, closed_all s n lowest loose es w none h.1 low.1 ls.1)
 
-  pub none_to_take : (s : Spot) (n : Need) (shelf : Shelf) → IsShelf t groups s.machine shelf → IsLike t s n → may_take_some n shelf.lowest shelf.loose ≡ false → victims_in (board_of t) t.entries s ≡ None
-  none_to_take s n shelf is w none = closed_none (board_of t) t.entries s
-      (subst (λ xs. AllByRecursion (λ x. may_take_in (board_of t) t.entries s [] x ≡ false) (singles xs)) is.walk
-      (closed_singles (λ x. may_take_in (board_of t) t.entries s [] x ≡ false) s.machine shelf.entries.now (closed_all s n shelf.lowest shelf.loose shelf.entries.now w none is.each is.low is.loose_are)))
+  -- whether any grant of a unit may be taken is what the definitions say
+  pub may_is : (s : Spot) (n : Need) (e : Entry) → IsLike t s n → n.resources ≡ t.cluster.resources → IsEntry t e → may_take n groups e ≡ may_take_in (board_of t) t.entries s [] (spot e.app.0 e.unit.0 s.machine)
+  may_is s n e w same h =
+      let x = get_or groups e.group no_group in
+      let spared : spares n.resources x e.size ≡ is_spared_in (board_of t) t.entries [] (spot e.app.0 e.unit.0 s.machine) = ap (λ k. spares k x e.size) same ∙ sym (spares_beside s.machine e h) in
+      ap (λ b. cond (nat_eq e.group n.group) (nat_lt e.priority n.priority) b) (and_swap n.guaranteed (spares n.resources x e.size))
+      ∙ (λ i. cond (nat_eq (h.group i) (w.group i)) (nat_lt (h.priority i) (w.priority i)) (spared i && w.guaranteed i))
 
-  -- the same for all machines, by the units that have grants
+  -- none may be taken on any machine, by the units that have grants
   pub none_anywhere : (a u : ℕ) (n : Need) (lowest : List ℕ) (loose : Loose) (holders : List Entry) → AreHolders t holders → AllByRecursion (IsLow lowest) holders → AllByRecursion (IsLoose t.cluster.resources groups loose) holders
       → ((m : ℕ) → IsLike t (spot a u m) n) → may_take_some n lowest loose ≡ false → HasNoVictims t (a, u)
   none_anywhere a u n lowest loose holders are low ls like none = record {
@@ -202,3 +217,10 @@ unfolding kind_of
 kind_none t e lowest loose le none =
     let f : nat_lt (get_or lowest e.group 0) e.priority ≡ false = grind (arith, nat_tests, le) in
     (λ i. f i || none i)
+
+-- nothing may be taken on a machine, where nothing may be of any unit
+pub none_open : (t : TableRecord) (holders : List Entry) → AreHolders t holders → (s : Spot) → AllByRecursion (IsShut t s) holders → victims_in (board_of t) t.entries s ≡ None
+none_open t holders are s shut = closed_none (board_of t) t.entries s
+    (subst (λ xs. AllByRecursion (λ x. may_take_in (board_of t) t.entries s [] x ≡ false) (singles xs)) (are.lists s.machine)
+    (closed_held (λ x. may_take_in (board_of t) t.entries s [] x ≡ false) t.entries s.machine holders
+    (all_more (IsShut t s) (λ (e : Entry). 0 < held_on t.entries e.app.0 e.unit.0 s.machine → may_take_in (board_of t) t.entries s [] (spot e.app.0 e.unit.0 s.machine) ≡ false) (λ e h. h.none) holders shut)))

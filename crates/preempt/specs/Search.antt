@@ -1,5 +1,5 @@
 -- What a search over pairs finds.
-use Rattle.std.specs.Prelude.{◌≡◌, ℕ, Bool, nat_eq, List, length, map, filter, Option, IfSome}
+use Rattle.std.specs.Prelude.{◌≡◌, ℕ, ◌+◌, Bool, nat_eq, List, length, map, filter, Option, None, Some, IfSome, MatchOption}
 use Rattle.std.specs.Option.{option_map}
 use Rattle.std.specs.List.{flat_map}
 use Rattle.fuxi_terms.specs.Keys.{Spot, Pair}
@@ -32,3 +32,11 @@ pairs_at t usable n ps = flat_map (pairs_on t usable) (filter (λ p. nat_eq (pri
 pub record IsFound (t : TableRecord) (usable : ℕ → ℕ → ℕ → Bool) (pairs : List Spot) (found : Option Plan) : Type 0 where
   pub is : option_map plan_as found ≡ first_plan_in pairs (board_at t usable) t.entries
   pub made : IfSome found (CanBeMade t)
+
+-- the pairs of a unit with the first machines have no victims
+abbrev pub HasPassed : TableRecord → (ℕ → ℕ → ℕ → Bool) → Pair → ℕ → Type 0
+HasPassed t usable p n = first_plan_in (pairs_to (accepts_at t usable) n p) (board_at t usable) t.entries ≡ None
+
+-- what a search finds on the machine behind them
+abbrev pub GoesOn : TableRecord → (ℕ → ℕ → ℕ → Bool) → Pair → ℕ → Option Plan → Type 0
+GoesOn t usable p n found = HasPassed t usable p n → MatchOption found (HasPassed t usable p (n + 1)) (λ plan. IsFound t usable (pairs_on t usable p) (Some plan))

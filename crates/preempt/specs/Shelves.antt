@@ -1,13 +1,13 @@
 -- What is kept of each machine, and what of a unit that waits.
-use Rattle.std.specs.Prelude.{◌≡◌, ℕ, ◌+◌, ◌<◌, ◌≤◌, Bool, true, false, not, nat_eq, nat_lt, ◌&&◌, ◌||◌, List, length, map, get_or, slice_index, slice_get, slice_range, Some, None}
+use Rattle.std.specs.Prelude.{◌≡◌, ℕ, ◌+◌, ◌<◌, ◌≤◌, Bool, true, false, not, cond, nat_eq, nat_lt, ◌&&◌, ◌||◌, List, [], length, map, get_or, slice_index, slice_get, Some, None}
 use Rattle.std.specs.Borrow.{Bor}
 use Rattle.std.specs.List.{AllByRecursion, flat_map}
 use Rattle.fuxi_terms.specs.Cluster.{has_at, limit_at, is_narrow}
 use Rattle.fuxi_terms.specs.Jobs.{priority_of, group_of, size_at}
 use Rattle.fuxi_terms.specs.Lists.{below_each}
 use Rattle.fuxi_terms.specs.Tables.{spot, held_on, total_at, usage_at}
-use Rattle.fuxi_terms.specs.Keys.{Pair}
-use Rattle.written_roles.specs.Preemption.{is_guaranteed_in, victims_in}
+use Rattle.fuxi_terms.specs.Keys.{Pair, Spot}
+use Rattle.written_roles.specs.Preemption.{is_guaranteed_in, may_take_in, victims_in}
 use Rattle.grant_table.specs.GrantTables.{TableRecord, as_known}
 use Rattle.preempt.specs.Counted.{entries_on}
 use Rattle.preempt.specs.declared.entry.Entry.{Entry}
@@ -16,8 +16,8 @@ use Rattle.preempt.specs.declared.entry.GroupUse.{GroupUse}
 use Rattle.preempt.specs.declared.shelf.Loose.{Loose}
 use Rattle.preempt.specs.declared.shelf.Loose.TheVariants.{Nobody, One, Several}
 use Rattle.preempt.specs.declared.shelf.Shelf.{Shelf}
-use Rattle.preempt.specs.declared.walk.Listing.{Listing}
-use Rattle.preempt.specs.Given.{IsEntry, AreSpared, no_group, written, board_of, pair_of}
+use Rattle.preempt.specs.declared.stock.Stock.{Stock}
+use Rattle.preempt.specs.Given.{AreGroups, IsEntry, no_group, written, board_of, pair_of}
 use Rattle.preempt.specs.Walks.{entry_on}
 
 -- units with grants, in the order of the walk: the entries of a machine are theirs
@@ -46,17 +46,6 @@ pub record IsWalked (t : TableRecord) (m : ℕ) (entries : List Entry) : Type 0 
   pub walk : map (written m) entries ≡ entries_on (board_of t) t.entries m
   pub each : AllByRecursion (IsEntry t) entries
   pub few : length entries ≤ 1000000
-
--- those of a machine, from its start to the next
-pub record IsRun (t : TableRecord) (m : ℕ) (entries : List Entry) (starts : List ℕ) : Type 0 where
-  pub order : get_or starts m 0 ≤ get_or starts (m + 1) 0
-  pub inside : get_or starts (m + 1) 0 ≤ length entries
-  pub walked : IsWalked t m (slice_range entries (get_or starts m 0) (get_or starts (m + 1) 0))
-
--- those of all machines
-pub record AreWalked (t : TableRecord) (l : Listing) : Type 0 where
-  pub long : length l.starts.items ≡ length t.cluster.machines + 1
-  pub each : (m : ℕ) → m < length t.cluster.machines → IsRun t m l.entries.items l.starts.items
 
 -- a unit without victims, wherever it is tried
 pub record HasNoVictims (t : TableRecord) (p : Pair) : Type 0 where
@@ -87,22 +76,14 @@ pub record IsLow (lowest : List ℕ) (e : Entry) : Type 0 where
 pub record IsLoose (resources : ℕ) (groups : List GroupUse) (loose : Loose) (e : Entry) : Type 0 where
   pub loosened : spares resources (get_or groups e.group no_group) e.size ≡ true → is_loose loose e.group ≡ true
 
-pub record IsShelf (t : TableRecord) (groups : List GroupUse) (m : ℕ) (s : Shelf) : Type 0 where
+pub record IsShelf (t : TableRecord) (m : ℕ) (s : Shelf) : Type 0 where
   pub walk : map (written m) s.entries.now ≡ entries_on (board_of t) t.entries m
   pub each : AllByRecursion (IsEntry t) s.entries.now
   pub few : length s.entries.now ≤ 1000000
-  pub spared : AreSpared t m s.entries.now s.spared.items
-  pub few_spared : length s.spared.items ≤ 1000000
   pub has : (i : ℕ) → i < t.cluster.resources → slice_index s.has i ≡ has_at t.cluster m i
   pub free : (i : ℕ) → i < t.cluster.resources → slice_index s.free i + total_at (as_known t.jobs) m i t.entries ≡ has_at t.cluster m i
-  pub low : AllByRecursion (IsLow s.lowest) s.entries.now
-  pub loose_are : AllByRecursion (IsLoose t.cluster.resources groups s.loose) s.entries.now
 
-pub record AreShelves (t : TableRecord) (groups : List GroupUse) (shelves : List Shelf) : Type 0 where
-  pub long : length shelves ≡ length t.cluster.machines
-  pub each : (m : ℕ) (s : Shelf) → slice_get shelves m ≡ Some s → IsShelf t groups m s
-
--- whether a unit may take any grant on a machine: of its own group, or of another
+-- whether a unit may take any grant of which these are the bounds: of its own group, or of another
 abbrev pub may_take_some : Need → List ℕ → Loose → Bool
 may_take_some n lowest loose = nat_lt (get_or lowest n.group 0) n.priority || (n.guaranteed && is_other_loose loose n.group)
 
@@ -116,3 +97,41 @@ pub record IsWanted (t : TableRecord) (a u : ℕ) (n : Need) : Type 0 where
   pub guaranteed : n.guaranteed ≡ is_guaranteed_in (board_of t) t.entries (spot a u 0)
   pub limit : (i : ℕ) → i < t.cluster.resources → slice_index n.limit i ≡ limit_at t.cluster (group_of (as_known t.jobs) a) i
   pub allowed : (i : ℕ) → i < t.cluster.resources → slice_index n.allowed i ≡ usage_at (as_known t.jobs) (group_of (as_known t.jobs) a) i t.entries + size_at (as_known t.jobs) a u i
+
+-- a need of the kind of a unit: all that tells what may be taken for it
+pub record IsLike (t : TableRecord) (s : Spot) (n : Need) : Type 0 where
+  pub group : n.group ≡ group_of (as_known t.jobs) s.job
+  pub priority : n.priority ≡ priority_of (as_known t.jobs) s.job s.unit
+  pub guaranteed : n.guaranteed ≡ is_guaranteed_in (board_of t) t.entries s
+
+-- whether any grant of a unit may be taken: of the own group by priority, of another where it spares one
+abbrev pub may_take : Need → List GroupUse → Entry → Bool
+may_take n groups e = cond (nat_eq e.group n.group) (nat_lt e.priority n.priority) (n.guaranteed && spares n.resources (get_or groups e.group no_group) e.size)
+
+-- a unit of which nothing may be taken on a machine
+pub record IsShut (t : TableRecord) (s : Spot) (e : Entry) : Type 0 where
+  pub none : 0 < held_on t.entries e.app.0 e.unit.0 s.machine → may_take_in (board_of t) t.entries s [] (spot e.app.0 e.unit.0 s.machine) ≡ false
+
+-- nothing on a machine, by what each of some units has
+abbrev pub HasNothingOn : ℕ → Bor (List ℕ) → Type 0
+HasNothingOn m row = get_or row.now m 0 ≡ 0
+
+-- by machine what those units have of which any grant may be taken: where these have nothing, nothing may be taken
+pub record AreOpen (t : TableRecord) (n : Need) (units : List Entry) (rows : List (Bor (List ℕ))) : Type 0 where
+  pub wide : AllByRecursion (λ (row : Bor (List ℕ)). length row.now ≡ length t.cluster.machines) rows
+  pub shut : (s : Spot) → IsLike t s n → AllByRecursion (HasNothingOn s.machine) rows → AllByRecursion (IsShut t s) units
+
+-- by machine what is free
+pub record IsFree (t : TableRecord) (m : ℕ) (q : List ℕ) : Type 0 where
+  pub is : (i : ℕ) → i < t.cluster.resources → slice_index q i + total_at (as_known t.jobs) m i t.entries ≡ has_at t.cluster m i
+
+pub record AreFree (t : TableRecord) (free : List (List ℕ)) : Type 0 where
+  pub long : length free ≡ length t.cluster.machines
+  pub each : (m : ℕ) (q : List ℕ) → slice_get free m ≡ Some q → IsFree t m q
+
+-- what a search reads
+pub record IsStock (t : TableRecord) (s : Stock) : Type 0 where
+  pub groups : AreGroups t s.groups.now
+  pub holders : AreHolders t s.holders.now
+  pub read : AreRead t s.holders.now s.counts.now
+  pub free : AreFree t s.free.now

@@ -12,6 +12,7 @@ mod plan;
 mod room;
 mod search;
 mod shelf;
+mod stock;
 mod victims;
 mod walk;
 

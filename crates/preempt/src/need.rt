@@ -1,6 +1,6 @@
 //! What a unit that waits needs.
 
-ghost use Rattle.std.specs.Prelude.{◌≡◌, ℕ, ◌+◌, ◌<◌, ◌≤◌, false, Some, None, List, IfOk, IfSome, MatchOption, slice_get, slice_index, length, map};
+ghost use Rattle.std.specs.Prelude.{◌≡◌, ℕ, ◌+◌, ◌<◌, ◌≤◌, false, Some, None, IfOk, IfSome, MatchOption, slice_get, slice_index, length, map};
 ghost use Rattle.std.specs.Option.{option_map};
 ghost use Rattle.std.specs.List.{All, AllByRecursion};
 ghost use Rattle.fuxi_terms.specs.Cluster.{JobRecord, is_narrow};
@@ -9,7 +9,6 @@ ghost use Rattle.fuxi_terms.specs.Tables.{spot};
 ghost use Rattle.written_roles.specs.Preemption.{victims_in};
 ghost use Rattle.grant_table.specs.GrantTables.{TableRecord, IsSound, as_known};
 ghost use Rattle.preempt.specs.Given.{AreGroups, IsEntry, IsGroup, IsNeed, board_of, pair_of};
-ghost use Rattle.preempt.specs.declared.entry.GroupUse.{GroupUse};
 ghost use Rattle.preempt.specs.Plans.{AreTakable, losers_of};
 ghost use Rattle.preempt.specs.Shelves.{IsShelf, IsWanted};
 
@@ -104,7 +103,7 @@ pub(crate) fn need_of(table: &GrantTable, group: &GroupUse, e: &Entry) -> Option
 
 // What it needs on a machine.
 fn on_shelf(need: &Need, e: &Entry, shelf: &Shelf<'_>) -> Need
-    ensures need { (t : TableRecord) (groups : List GroupUse) (m : ℕ) → IsEntry t e.now → IsWanted t e.now.app.0 e.now.unit.0 need.now → IsShelf t groups m shelf.now → t.cluster.resources ≤ 8 → IsNeed t (spot e.now.app.0 e.now.unit.0 m) result }
+    ensures need { (t : TableRecord) (m : ℕ) → IsEntry t e.now → IsWanted t e.now.app.0 e.now.unit.0 need.now → IsShelf t m shelf.now → t.cluster.resources ≤ 8 → IsNeed t (spot e.now.app.0 e.now.unit.0 m) result }
     ensures group { result.group ≡ need.now.group }
     ensures resources { result.resources ≡ need.now.resources }
 {
@@ -129,9 +128,9 @@ pub(crate) fn victims_for(
     requires few { length shelf.now.entries.now ≤ 1000000 }
     requires small { All (λ e. e.group < 32) shelf.now.entries.now }
     requires long { length groups.now ≡ 32 }
-    ensures found { IfOk result (λ found. (t : TableRecord) (m : ℕ) → IsSound t → AreGroups t groups.now → IsEntry t e.now → IsWanted t e.now.app.0 e.now.unit.0 need.now → IsShelf t groups.now m shelf.now →
+    ensures found { IfOk result (λ found. (t : TableRecord) (m : ℕ) → IsSound t → AreGroups t groups.now → IsEntry t e.now → IsWanted t e.now.app.0 e.now.unit.0 need.now → IsShelf t m shelf.now →
         MatchOption found (victims_in (board_of t) t.entries (spot e.now.app.0 e.now.unit.0 m) ≡ None) (λ vs. victims_in (board_of t) t.entries (spot e.now.app.0 e.now.unit.0 m) ≡ Some (losers_of m vs.items))) }
-    ensures takable { IfOk result (λ found. (t : TableRecord) (m : ℕ) → IsSound t → AreGroups t groups.now → IsEntry t e.now → IsWanted t e.now.app.0 e.now.unit.0 need.now → IsShelf t groups.now m shelf.now → IfSome found (λ vs. AreTakable t m vs.items)) }
+    ensures takable { IfOk result (λ found. (t : TableRecord) (m : ℕ) → IsSound t → AreGroups t groups.now → IsEntry t e.now → IsWanted t e.now.app.0 e.now.unit.0 need.now → IsShelf t m shelf.now → IfSome found (λ vs. AreTakable t m vs.items)) }
 {
     let need = on_shelf(need, e, shelf);
     victims_on(alloc, shelf.entries, &need, groups, scratch)

@@ -5,14 +5,17 @@ ghost use Rattle.std.specs.Prelude.{◌≡◌, ℕ, ◌+◌, ◌-◌, ◌^◌, �
 ghost use Rattle.std.specs.List.{AllByRecursion};
 ghost use Rattle.fuxi_terms.specs.Lists.{below_each};
 ghost use Rattle.grant_table.specs.GrantTables.{TableRecord};
-ghost use Rattle.preempt.specs.Given.{AreGroups};
+ghost use Rattle.preempt.specs.Given.{AreGroups, AreSpared};
 ghost use Rattle.preempt.specs.MachineRooms.{AreRooms, IsFor, IsPlaceFor, IsRoom, within_at};
-ghost use Rattle.preempt.specs.Shelves.{AreShelves, IsShelf};
+ghost use Rattle.preempt.specs.Shelves.{AreOpen, IsShelf, IsStock, IsWalked};
 
-use crate::entry::{GroupUse, Need, Sums, lower_of, with_spared};
-use crate::shelf::{Shelf, may_take_some, used_of};
+use crate::entry::{Entry, GroupUse, Need, Sums, lower_of, with_spared};
+use crate::parts::Parts;
+use crate::shelf::{Shelf, shelf_of, spared_on, used_of};
+use crate::stock::{Stock, entries_on, has_any_on, open_rows};
 use fuxi_terms::OutOfMemory;
 use grant_table::GrantTable;
+use schedule_unit::MachineNo;
 use std::alloc::Global;
 
 /// The rooms for units of one group and priority, that have quota left for one more or have not.
@@ -83,20 +86,16 @@ fn left_on(
 }
 
 // What there is room for on a machine, once all that may be taken there is gone: it fits, and its group may use it.
-// Where nothing may be taken there are no victims, so no room is kept.
-fn room_on(shelf: &Shelf<'_>, need: &Need, groups: &[GroupUse]) -> Sums
+fn room_on(shelf: &Shelf<'_>, spared: &[Entry], need: &Need, groups: &[GroupUse]) -> Sums
     requires resources { need.now.resources ≤ 8 }
     requires own { need.now.group < 32 }
     requires few { length shelf.now.entries.now ≤ 1000000 }
-    requires few_spared { length shelf.now.spared.items ≤ 1000000 }
+    requires few_spared { length spared.now ≤ 1000000 }
     requires long { length groups.now ≡ 32 }
-    ensures { (t : TableRecord) (m : ℕ) → AreGroups t groups.now → IsShelf t groups.now m shelf.now → need.now.resources ≡ t.cluster.resources → IsRoom t need.now.group need.now.priority need.now.guaranteed m result.q }
+    ensures { (t : TableRecord) (m : ℕ) → AreGroups t groups.now → IsShelf t m shelf.now → AreSpared t m shelf.now.entries.now spared.now → need.now.resources ≡ t.cluster.resources → IsRoom t need.now.group need.now.priority need.now.guaranteed m result.q }
 {
-    if !may_take_some(need, &shelf.lowest, shelf.loose) {
-        return Sums { q: [0; 8] };
-    }
     let lower = lower_of(shelf.entries, need);
-    let all = with_spared(&lower, &shelf.spared, need);
+    let all = with_spared(&lower, spared, need);
     let group = &groups[need.group];
     let used = used_of(&shelf.has, &shelf.free);
     Sums {
@@ -104,26 +103,74 @@ fn room_on(shelf: &Shelf<'_>, need: &Need, groups: &[GroupUse]) -> Sums
     }
 }
 
+// The same, of a machine with these entries.
+fn room_among(
+    alloc: Global,
+    table: &GrantTable,
+    stock: &Stock<'_>,
+    entries: &[Entry],
+    need: &Need,
+    machine: MachineNo,
+    parts: &mut Parts,
+) -> Result<Sums, OutOfMemory>
+    requires stock { IsStock table.now stock.now }
+    requires resources { need.now.resources ≡ table.now.cluster.resources }
+    requires own { need.now.group < 32 }
+    requires machine { machine.0 < length table.now.cluster.machines }
+    requires entries { IsWalked table.now machine.0 entries.now }
+    ensures { IfOk result (λ room. IsRoom table.now need.now.group need.now.priority need.now.guaranteed machine.0 room.q) }
+{
+    let _cluster = table.cluster();
+    let spared = spared_on(alloc, entries, need.resources, stock.groups, parts)?;
+    let shelf = shelf_of(table, stock, entries, machine);
+    Ok(room_on(&shelf, &spared, need, stock.groups))
+}
+
+// The same, where a test tells whether anything may be taken there. Else there are no victims, so no room is kept.
+fn room_at(
+    alloc: Global,
+    table: &GrantTable,
+    stock: &Stock<'_>,
+    rows: &[&[u32]],
+    need: &Need,
+    machine: MachineNo,
+    parts: &mut Parts,
+) -> Result<Sums, OutOfMemory>
+    requires stock { IsStock table.now stock.now }
+    requires resources { need.now.resources ≡ table.now.cluster.resources }
+    requires own { need.now.group < 32 }
+    requires machine { machine.0 < length table.now.cluster.machines }
+    requires rows { AreOpen table.now need.now stock.now.holders.now rows.now }
+    ensures { IfOk result (λ room. IsRoom table.now need.now.group need.now.priority need.now.guaranteed machine.0 room.q) }
+{
+    if !has_any_on(rows, machine.0) {
+        return Ok(Sums { q: [0; 8] });
+    }
+    let entries = entries_on(alloc, table, stock, machine)?;
+    room_among(alloc, table, stock, &entries, need, machine, parts)
+}
+
 /// The rooms for units of the kind of a need.
 pub(crate) fn rooms_of(
     alloc: Global,
     table: &GrantTable,
-    groups: &[GroupUse],
-    shelves: &[Shelf<'_>],
+    stock: &Stock<'_>,
     need: &Need,
+    parts: &mut Parts,
 ) -> Result<Rooms, OutOfMemory>
-    requires groups { AreGroups table.now groups.now }
-    requires shelves { AreShelves table.now groups.now shelves.now }
+    requires stock { IsStock table.now stock.now }
     requires resources { need.now.resources ≡ table.now.cluster.resources }
     requires own { need.now.group < 32 }
     ensures rooms { IfOk result (AreRooms table.now) }
     ensures kind { IfOk result (IsFor need.now) }
 {
-    let _cluster = table.cluster();
-    let mut each = Vec::with_capacity(alloc, shelves.len())?;
+    let machines = table.cluster().machines();
+    let rows = open_rows(alloc, table, stock, need)?;
+    let mut each = Vec::with_capacity(alloc, machines as usize)?;
     let mut widest = [0; 8];
-    for shelf in shelves {
-        let room = room_on(shelf, need, groups);
+    for number in 0..machines {
+        let machine = MachineNo(number);
+        let room = room_at(alloc, table, stock, &rows, need, machine, parts)?;
         widen(need.resources, &mut widest, &room.q);
         each.push(room)?;
     }

@@ -1,7 +1,7 @@
 //! The search: pairs of a waiting unit and a machine that accepts one more grant of it, by greater priority, place
 //! in the line and smaller machine.
 
-ghost use Rattle.std.specs.Prelude.{◌≡◌, ℕ, ◌+◌, ◌<◌, ◌≤◌, true, false, IfOk, IfSome, IsSomeAnd, OnOk, length, map};
+ghost use Rattle.std.specs.Prelude.{◌≡◌, ℕ, ◌+◌, ◌<◌, ◌≤◌, true, false, IfOk, IfSome, OnOk, length, map};
 ghost use Rattle.std.proofs.Common.{get_or};
 ghost use Rattle.std.specs.List.{AllByRecursion};
 ghost use Rattle.std.specs.Option.{option_map};
@@ -10,22 +10,23 @@ ghost use Rattle.fuxi_terms.specs.Lists.{below_each};
 ghost use Rattle.written_roles.specs.Placing.{Board};
 ghost use Rattle.written_roles.specs.Preemption.{plan_in};
 ghost use Rattle.grant_table.specs.GrantTables.{as_known};
-ghost use Rattle.preempt.specs.Given.{AreGroups, IsEntry, pair_of};
+ghost use Rattle.preempt.specs.Given.{IsEntry, pair_of};
 ghost use Rattle.preempt.specs.GroupSums.{no_sums};
 ghost use Rattle.preempt.specs.MachineRooms.{AreRooms, AreRoomsFor, IsFor, within_at};
 ghost use Rattle.preempt.specs.Plans.{IsBoardOf, CanBeMade, plan_as};
-ghost use Rattle.preempt.specs.Search.{IsFound, accepts_at, pairs_on, pairs_at};
-ghost use Rattle.preempt.specs.Shelves.{AreShelves, IsWanted};
+ghost use Rattle.preempt.specs.Search.{GoesOn, IsFound, accepts_at, pairs_on, pairs_at};
+ghost use Rattle.preempt.specs.Shelves.{IsStock, IsWanted};
 
 use crate::chance::may_any_take;
-use crate::entry::{Entry, GroupUse, Need, Sums};
+use crate::entry::{Entry, Need, Sums};
 use crate::need::{need_of, victims_for, waiting_of};
 use crate::parts::Parts;
 use crate::plan::{Plan, Victims};
 use crate::room::{Rooms, is_within, place_for, rooms_of};
-use crate::shelf::{Shelf, groups_of, may_take_some, shelves_of};
+use crate::shelf::{groups_of, shelf_of};
+use crate::stock::{Stock, entries_on, free_of, has_any_on, open_rows};
 use crate::victims::Scratch;
-use crate::walk::{by_priority, holders_of, listing_of};
+use crate::walk::{by_priority, counts_of, holders_of};
 use fuxi_terms::OutOfMemory;
 use grant_table::{Asking, GrantTable, Pick, Steps};
 use schedule_unit::MachineNo;
@@ -44,60 +45,108 @@ fn accepts<P: Asking>(table: &GrantTable, placer: &P, e: &Entry, machine: Machin
     table.held_on(e.app, e.unit, machine) < table.most(e.app, e.unit)
 }
 
-// Whether a size needs more than there is room for on a machine, where the rooms are known.
-fn is_beyond(rooms: Option<&[Sums]>, need: &Need, size: &[u64; 8], machine: u32) -> bool
-    requires resources { need.now.resources ≤ 8 }
-    requires inside { IfSome rooms (λ each. machine < length each.now) }
-    ensures { result ≡ true → IsSomeAnd rooms.entry (λ each. below_each need.now.resources (within_at size.now (get_or each.now machine no_sums).q) ≡ false) }
+// The plan of a unit on a machine, where it has victims there.
+fn plan_on<P: Asking>(
+    alloc: Global,
+    table: &GrantTable,
+    placer: &P,
+    stock: &Stock<'_>,
+    e: &Entry,
+    need: &Need,
+    machine: MachineNo,
+    scratch: &mut Scratch,
+) -> Result<Option<Plan>, OutOfMemory>
+    requires entry { IsEntry table.now e.now }
+    requires machine { machine.0 < length table.now.cluster.machines }
+    requires stock { IsStock table.now stock.now }
+    requires wanted { IsWanted table.now e.now.app.0 e.now.unit.0 need.now }
+    ensures { IfOk result (GoesOn table.now (P.usable placer.now) (pair_of e.now) machine.0) }
 {
-    match rooms {
-        Some(each) => !is_within(need.resources, size, &each[machine as usize].q),
-        None => false,
+    let _cluster = table.cluster();
+    if !accepts(table, placer, e, machine) {
+        return Ok(None);
+    }
+    let entries = entries_on(alloc, table, stock, machine)?;
+    let shelf = shelf_of(table, stock, &entries, machine);
+    match victims_for(alloc, need, e, &shelf, stock.groups, scratch)? {
+        Some(victims) => {
+            let pick = Pick {
+                app: e.app,
+                unit: e.unit,
+                machine,
+            };
+            let victims = Victims::of(victims);
+            Ok(Some(Plan { pick, victims }))
+        }
+        None => Ok(None),
     }
 }
 
-// The plan of the first machine on which a unit has victims. Where the rooms are known a machine without room for it is passed.
+// The plan of the first machine on which a unit has victims. One where nothing may be taken is passed.
 fn first_machine<P: Asking>(
     alloc: Global,
     table: &GrantTable,
     placer: &P,
-    groups: &[GroupUse],
-    shelves: &[Shelf<'_>],
-    rooms: Option<&[Sums]>,
+    stock: &Stock<'_>,
     e: &Entry,
     need: &Need,
     scratch: &mut Scratch,
 ) -> Result<Option<Plan>, OutOfMemory>
     requires entry { IsEntry table.now e.now }
-    requires groups { AreGroups table.now groups.now }
-    requires shelves { AreShelves table.now groups.now shelves.now }
+    requires stock { IsStock table.now stock.now }
     requires wanted { IsWanted table.now e.now.app.0 e.now.unit.0 need.now }
-    requires rooms { IfSome rooms (λ each. AreRoomsFor table.now need.now each.now) }
+    ensures { IfOk result (IsFound table.now (P.usable placer.now) (pairs_on table.now (P.usable placer.now) (pair_of e.now))) }
+{
+    let cluster = table.cluster();
+    let rows = open_rows(alloc, table, stock, need)?;
+    for number in 0..cluster.machines() {
+        if !has_any_on(&rows, number) {
+            continue;
+        }
+        let machine = MachineNo(number);
+        match plan_on(alloc, table, placer, stock, e, need, machine, scratch)? {
+            Some(plan) => return Ok(Some(plan)),
+            None => {}
+        }
+    }
+    Ok(None)
+}
+
+// Whether a size needs more than there is room for on a machine.
+fn is_beyond(rooms: &[Sums], need: &Need, size: &[u64; 8], machine: u32) -> bool
+    requires resources { need.now.resources ≤ 8 }
+    requires inside { machine < length rooms.now }
+    ensures { result ≡ true → below_each need.now.resources (within_at size.now (get_or rooms.now machine no_sums).q) ≡ false }
+{
+    !is_within(need.resources, size, &rooms[machine as usize].q)
+}
+
+// The plan of the first machine on which a unit has victims, where the rooms are known. One without room for it is
+// passed.
+fn first_within<P: Asking>(
+    alloc: Global,
+    table: &GrantTable,
+    placer: &P,
+    stock: &Stock<'_>,
+    rooms: &[Sums],
+    e: &Entry,
+    need: &Need,
+    scratch: &mut Scratch,
+) -> Result<Option<Plan>, OutOfMemory>
+    requires entry { IsEntry table.now e.now }
+    requires stock { IsStock table.now stock.now }
+    requires wanted { IsWanted table.now e.now.app.0 e.now.unit.0 need.now }
+    requires rooms { AreRoomsFor table.now need.now rooms.now }
     ensures { IfOk result (IsFound table.now (P.usable placer.now) (pairs_on table.now (P.usable placer.now) (pair_of e.now))) }
 {
     let cluster = table.cluster();
     for number in 0..cluster.machines() {
-        let machine = MachineNo(number);
         if is_beyond(rooms, need, &e.size, number) {
             continue;
         }
-        let shelf = &shelves[number as usize];
-        if !may_take_some(need, &shelf.lowest, shelf.loose) {
-            continue;
-        }
-        if !accepts(table, placer, e, machine) {
-            continue;
-        }
-        match victims_for(alloc, need, e, shelf, groups, scratch)? {
-            Some(victims) => {
-                let pick = Pick {
-                    app: e.app,
-                    unit: e.unit,
-                    machine,
-                };
-                let victims = Victims::of(victims);
-                return Ok(Some(Plan { pick, victims }));
-            }
+        let machine = MachineNo(number);
+        match plan_on(alloc, table, placer, stock, e, need, machine, scratch)? {
+            Some(plan) => return Ok(Some(plan)),
             None => {}
         }
     }
@@ -109,16 +158,14 @@ fn plan_within<P: Asking>(
     alloc: Global,
     table: &GrantTable,
     placer: &P,
-    groups: &[GroupUse],
-    shelves: &[Shelf<'_>],
+    stock: &Stock<'_>,
     rooms: &Rooms,
     e: &Entry,
     need: &Need,
     scratch: &mut Scratch,
 ) -> Result<Option<Plan>, OutOfMemory>
     requires entry { IsEntry table.now e.now }
-    requires groups { AreGroups table.now groups.now }
-    requires shelves { AreShelves table.now groups.now shelves.now }
+    requires stock { IsStock table.now stock.now }
     requires wanted { IsWanted table.now e.now.app.0 e.now.unit.0 need.now }
     requires rooms { AreRooms table.now rooms.now }
     requires kind { IsFor need.now rooms.now }
@@ -128,17 +175,7 @@ fn plan_within<P: Asking>(
     if !is_within(need.resources, &e.size, &rooms.widest) {
         return Ok(None);
     }
-    first_machine(
-        alloc,
-        table,
-        placer,
-        groups,
-        shelves,
-        Some(&rooms.each),
-        e,
-        need,
-        scratch,
-    )
+    first_within(alloc, table, placer, stock, &rooms.each, e, need, scratch)
 }
 
 // The plan of the second unit of a kind. The rooms are made for it, and kept for those behind it.
@@ -146,25 +183,21 @@ fn plan_with_rooms<P: Asking>(
     alloc: Global,
     table: &GrantTable,
     placer: &P,
-    groups: &[GroupUse],
-    shelves: &[Shelf<'_>],
+    stock: &Stock<'_>,
     e: &Entry,
     need: &Need,
     kinds: &mut Vec<Rooms>,
     scratch: &mut Scratch,
 ) -> Result<Option<Plan>, OutOfMemory>
     requires entry { IsEntry table.now e.now }
-    requires groups { AreGroups table.now groups.now }
-    requires shelves { AreShelves table.now groups.now shelves.now }
+    requires stock { IsStock table.now stock.now }
     requires wanted { IsWanted table.now e.now.app.0 e.now.unit.0 need.now }
     requires kinds { AllByRecursion (AreRooms table.now) kinds.old.items }
     ensures found { IfOk result (IsFound table.now (P.usable placer.now) (pairs_on table.now (P.usable placer.now) (pair_of e.now))) }
     ensures kinds { OnOk result (AllByRecursion (AreRooms table.now) kinds.new.items) }
 {
-    let rooms = rooms_of(alloc, table, groups, shelves, need)?;
-    let found = plan_within(
-        alloc, table, placer, groups, shelves, &rooms, e, need, scratch,
-    )?;
+    let rooms = rooms_of(alloc, table, stock, need, &mut scratch.parts)?;
+    let found = plan_within(alloc, table, placer, stock, &rooms, e, need, scratch)?;
     kinds.push(rooms)?;
     Ok(found)
 }
@@ -175,39 +208,31 @@ fn unit_plan<P: Asking>(
     alloc: Global,
     table: &GrantTable,
     placer: &P,
-    groups: &[GroupUse],
-    shelves: &[Shelf<'_>],
+    stock: &Stock<'_>,
     e: &Entry,
     tried: &mut [bool; 32],
     kinds: &mut Vec<Rooms>,
     scratch: &mut Scratch,
 ) -> Result<Option<Plan>, OutOfMemory>
     requires entry { IsEntry table.now e.now }
-    requires groups { AreGroups table.now groups.now }
-    requires shelves { AreShelves table.now groups.now shelves.now }
+    requires stock { IsStock table.now stock.now }
     requires kinds { AllByRecursion (AreRooms table.now) kinds.old.items }
     ensures found { IfOk result (IsFound table.now (P.usable placer.now) (pairs_on table.now (P.usable placer.now) (pair_of e.now))) }
     ensures kinds { OnOk result (AllByRecursion (AreRooms table.now) kinds.new.items) }
 {
     let _cluster = table.cluster();
-    let need = match need_of(table, &groups[e.group], e) {
+    let need = match need_of(table, &stock.groups[e.group], e) {
         Some(need) => need,
         None => return Ok(None),
     };
     if let Some(at) = place_for(kinds, &need) {
-        return plan_within(
-            alloc, table, placer, groups, shelves, &kinds[at], e, &need, scratch,
-        );
+        return plan_within(alloc, table, placer, stock, &kinds[at], e, &need, scratch);
     }
     if tried[e.group] {
-        return plan_with_rooms(
-            alloc, table, placer, groups, shelves, e, &need, kinds, scratch,
-        );
+        return plan_with_rooms(alloc, table, placer, stock, e, &need, kinds, scratch);
     }
     tried[e.group] = true;
-    first_machine(
-        alloc, table, placer, groups, shelves, None, e, &need, scratch,
-    )
+    first_machine(alloc, table, placer, stock, e, &need, scratch)
 }
 
 // The plan of the first unit of a priority that has victims.
@@ -215,15 +240,13 @@ fn first_unit<P: Asking>(
     alloc: Global,
     table: &GrantTable,
     placer: &P,
-    groups: &[GroupUse],
-    shelves: &[Shelf<'_>],
+    stock: &Stock<'_>,
     waiting: &[Entry],
     priority: u8,
     scratch: &mut Scratch,
 ) -> Result<Option<Plan>, OutOfMemory>
     requires entries { AllByRecursion (IsEntry table.now) waiting.now }
-    requires groups { AreGroups table.now groups.now }
-    requires shelves { AreShelves table.now groups.now shelves.now }
+    requires stock { IsStock table.now stock.now }
     ensures { IfOk result (IsFound table.now (P.usable placer.now) (pairs_at table.now (P.usable placer.now) priority (map pair_of waiting.now))) }
 {
     let mut kinds = Vec::new(alloc);
@@ -233,7 +256,7 @@ fn first_unit<P: Asking>(
             continue;
         }
         match unit_plan(
-            alloc, table, placer, groups, shelves, e, &mut tried, &mut kinds, scratch,
+            alloc, table, placer, stock, e, &mut tried, &mut kinds, scratch,
         )? {
             Some(plan) => return Ok(Some(plan)),
             None => {}
@@ -248,11 +271,11 @@ fn first_unit<P: Asking>(
 /// plan can be carried out on the table (`made`). Each unit of the line must be admitted. Only want of memory is an
 /// error, and it leaves all as it was. What is free is asked at most once for each machine (`steps`).
 ///
-/// The time is linear in the units that have grants on a machine, whatever their counts, for each pair; a pair of
-/// which nothing may be taken costs one test, and so does one whose machine would have no room for it with all taken
-/// that may be, once a unit of its group and priority was tried in vain. Memory is asked once for the units, for what
-/// they have on each machine and for what there would be room for, and no more for a pair without victims once a list
-/// has its room.
+/// The time is linear in the units that have grants, whatever their counts, for each pair that is walked; of a pair of
+/// which nothing may be taken only those units are asked of which any grant may be, and one whose machine would have no
+/// room for it with all taken that may be costs one test, once a unit of its group and priority was tried in vain.
+/// Memory is asked once for the units and for what is free, and besides for each unit that is tried, for each machine
+/// that is walked and for what there would be room for.
 pub fn find<P: Asking, L: Ledger>(
     alloc: Global,
     table: &GrantTable,
@@ -269,29 +292,26 @@ pub fn find<P: Asking, L: Ledger>(
     }
     let groups = groups_of(alloc, table)?;
     let units = holders_of(alloc, table)?;
-    let waiting = waiting_of(alloc, table, placer)?;
-    if !may_any_take(table, &groups, &units, &waiting) {
+    let line = waiting_of(alloc, table, placer)?;
+    if !may_any_take(table, &groups, &units, &line) {
         return Ok(None);
     }
     let holders = by_priority(alloc, &units)?;
+    let counts = counts_of(alloc, table, &holders)?;
+    let free = free_of(alloc, table, steps)?;
+    let stock = Stock {
+        groups: &groups,
+        holders: &holders,
+        counts: &counts,
+        free: &free,
+    };
     let mut scratch = Scratch {
         set: Vec::new(alloc),
         parts: Parts::new(alloc)?,
     };
-    let listing = listing_of(alloc, table, &holders)?;
-    let shelves = shelves_of(alloc, table, &groups, &listing, &mut scratch.parts, steps)?;
     for late in 0..10_u8 {
         let priority = 9 - late;
-        match first_unit(
-            alloc,
-            table,
-            placer,
-            &groups,
-            &shelves,
-            &waiting,
-            priority,
-            &mut scratch,
-        )? {
+        match first_unit(alloc, table, placer, &stock, &line, priority, &mut scratch)? {
             Some(plan) => return Ok(Some(plan)),
             None => {}
         }

@@ -1,22 +1,21 @@
-//! What is kept of each machine: its grants in the order of the walk, and two bounds by which a unit that can
-//! take none of them is told without a walk.
+//! What is walked of a machine, what groups spare, and two bounds by which units that can take no grants are told
+//! without a walk.
 
-ghost use Rattle.std.specs.Prelude.{◌≡◌, ℕ, ◌+◌, ◌-◌, ◌<◌, ◌≤◌, true, IfOk, length, slice_index};
+ghost use Rattle.std.specs.Prelude.{◌≡◌, ℕ, ◌-◌, ◌<◌, ◌≤◌, true, IfOk, length, slice_index};
 ghost use Rattle.std.specs.List.{All, AllByRecursion};
 ghost use Rattle.preempt.specs.Given.{AreGroups, AreSpared, IsEntry, IsGroup};
 ghost use Rattle.grant_table.specs.GrantTables.{TableRecord};
-ghost use Rattle.preempt.specs.Shelves.{IsShelf, IsWalked, AreWalked, AreShelves, IsLow, IsLoose, is_loose, is_other_loose, spares, may_take_some};
+ghost use Rattle.preempt.specs.Shelves.{IsShelf, IsStock, IsWalked, IsLow, IsLoose, is_loose, is_other_loose, spares};
 
-use crate::entry::{Entry, GroupUse, Need, raised, recounted};
+use crate::entry::{Entry, GroupUse, raised, recounted};
 use crate::number::spared_number;
 use crate::parts::Parts;
-use crate::walk::Listing;
+use crate::stock::Stock;
 use cluster_desc::Cluster;
 use fuxi_terms::OutOfMemory;
-use grant_table::{GrantTable, Steps};
+use grant_table::GrantTable;
 use schedule_unit::{GroupNo, MachineNo};
 use std::alloc::Global;
-use std::sync::ledger::Ledger;
 
 /// The groups that have a grant on a machine that their quota spares.
 #[derive(Clone, Copy)]
@@ -27,15 +26,10 @@ pub(crate) enum Loose {
 }
 
 /// A machine.
-#[derive(Drop)]
+#[derive(Clone, Copy)]
 pub(crate) struct Shelf<'a> {
     /// Its grants, in the order of the walk.
     pub(crate) entries: &'a [Entry],
-    /// Those that their groups spare, in the same order.
-    pub(crate) spared: Vec<Entry>,
-    /// By group, a priority that none of its grants here is below.
-    pub(crate) lowest: [u8; 32],
-    pub(crate) loose: Loose,
     /// What the machine has, and what of it is free.
     pub(crate) has: [u64; 8],
     pub(crate) free: [u64; 8],
@@ -77,8 +71,8 @@ fn loosened(loose: Loose, group: usize) -> Loose
     }
 }
 
-// Whether a group spares one grant of this size, in each of so many resources.
-fn spares(resources: usize, group: &GroupUse, size: &[u64; 8]) -> bool
+/// Whether a group spares one grant of this size, in each of so many resources.
+pub(crate) fn spares(resources: usize, group: &GroupUse, size: &[u64; 8]) -> bool
     requires { resources ≤ 8 }
     ensures { result ≡ spares resources group.now size.now }
 {
@@ -154,6 +148,25 @@ fn spared_of(
     Ok(spared)
 }
 
+/// The same for a machine, of which these are the entries.
+pub(crate) fn spared_on(
+    alloc: Global,
+    entries: &[Entry],
+    resources: usize,
+    groups: &[GroupUse],
+    parts: &mut Parts,
+) -> Result<Vec<Entry>, OutOfMemory>
+    requires few { length entries.now ≤ 1000000 }
+    requires small { All (λ e. e.group < 32) entries.now }
+    requires resources { resources ≤ 8 }
+    requires long { length groups.now ≡ 32 }
+    ensures few { IfOk result (λ spared. length spared.items ≤ length entries.now) }
+    ensures spared { IfOk result (λ spared. (t : TableRecord) (m : ℕ) → AllByRecursion (IsEntry t) entries.now → AreGroups t groups.now → resources ≡ t.cluster.resources → AreSpared t m entries.now spared.items) }
+{
+    let loose = loose_of(entries, resources, groups);
+    spared_of(alloc, entries, loose, resources, groups, parts)
+}
+
 // What a group is promised, may use and uses. One that the cluster does not have has nothing.
 fn group_use(table: &GrantTable, number: GroupNo) -> GroupUse
     requires { number.0 < 32 }
@@ -199,69 +212,21 @@ pub(crate) fn used_of(has: &[u64; 8], free: &[u64; 8]) -> [u64; 8]
     used
 }
 
-// What is kept of a machine, from its entries in the order of the walk.
-fn shelf_of<'a, L: Ledger>(
-    alloc: Global,
+/// A machine, of which these are the entries.
+pub(crate) fn shelf_of<'a>(
     table: &GrantTable,
-    groups: &[GroupUse],
+    stock: &Stock<'_>,
     entries: &'a [Entry],
     machine: MachineNo,
-    parts: &mut Parts,
-    steps: &mut Steps<L>,
-) -> Result<Shelf<'a>, OutOfMemory>
+) -> Shelf<'a>
     requires machine { machine.0 < length table.now.cluster.machines }
-    requires groups { AreGroups table.now groups.now }
+    requires stock { IsStock table.now stock.now }
     requires entries { IsWalked table.now machine.0 entries.now }
-    ensures shelf { IfOk result (λ shelf. IsShelf table.now groups.now machine.0 shelf) }
-    ensures step { steps.new ≡ steps.old + 1 }
+    ensures shelf { IsShelf table.now machine.0 result }
+    ensures same { result.entries.now ≡ entries.now }
 {
-    let free = table.free(machine, steps);
     let cluster = table.cluster();
-    let resources = cluster.resources() as usize;
     let has = cluster.machine(machine).has.q;
-    let left = free.q;
-    let lowest = lowest_of(entries);
-    let loose = loose_of(entries, resources, groups);
-    let spared = spared_of(alloc, entries, loose, resources, groups, parts)?;
-    Ok(Shelf {
-        entries,
-        spared,
-        lowest,
-        loose,
-        has,
-        free: left,
-    })
-}
-
-/// What is kept of each machine, from the entries of all. For each what is free is asked once.
-pub(crate) fn shelves_of<'a, L: Ledger>(
-    alloc: Global,
-    table: &GrantTable,
-    groups: &[GroupUse],
-    listing: &'a Listing,
-    parts: &mut Parts,
-    steps: &mut Steps<L>,
-) -> Result<Vec<Shelf<'a>>, OutOfMemory>
-    requires groups { AreGroups table.now groups.now }
-    requires listing { AreWalked table.now listing.now }
-    ensures shelves { IfOk result (λ shelves. AreShelves table.now groups.now shelves.items) }
-    ensures steps { steps.new ≤ steps.old + length table.now.cluster.machines }
-{
-    let machines = table.cluster().machines();
-    let mut shelves = Vec::with_capacity(alloc, machines as usize)?;
-    for number in 0..machines {
-        let at = number as usize;
-        let entries = &listing.entries[listing.starts[at]..listing.starts[at + 1]];
-        let machine = MachineNo(number);
-        shelves.push(shelf_of(alloc, table, groups, entries, machine, parts, steps)?)?;
-    }
-    Ok(shelves)
-}
-
-/// Whether a unit may take any of the grants that have these bounds. It looks at no grant.
-pub(crate) fn may_take_some(need: &Need, lowest: &[u8; 32], loose: Loose) -> bool
-    requires { need.now.group < 32 }
-    ensures { result ≡ may_take_some need.now lowest.now loose }
-{
-    lowest[need.group] < need.priority || (need.guaranteed && is_other_loose(loose, need.group))
+    let free = stock.free[machine.0 as usize];
+    Shelf { entries, has, free }
 }

@@ -6,7 +6,7 @@ ghost use Rattle.std.specs.List.{All, AllByRecursion};
 ghost use Rattle.fuxi_terms.specs.Cluster.{JobRecord};
 ghost use Rattle.grant_table.specs.GrantTables.{TableRecord, IsSound};
 ghost use Rattle.preempt.specs.Given.{IsEntry, pair_of};
-ghost use Rattle.preempt.specs.Shelves.{AreHolders, AreRead, AreWalked, IsListed};
+ghost use Rattle.preempt.specs.Shelves.{AreHolders, AreRead, IsListed};
 ghost use Rattle.preempt.specs.Walks.{holds_some, units_in, backward, of_priority, entries_by_priority};
 
 use crate::entry::{Entry, recounted};
@@ -87,16 +87,8 @@ pub(crate) fn by_priority(alloc: Global, units: &[Entry]) -> Result<Vec<Entry>, 
     Ok(sorted)
 }
 
-/// The entries of all machines, in the order of the walk, one machine behind another.
-#[derive(Drop)]
-pub(crate) struct Listing {
-    pub(crate) entries: Vec<Entry>,
-    /// Where the entries of each machine begin, and at last where those of the last end.
-    pub(crate) starts: Vec<usize>,
-}
-
-// What each unit has by machine. Each is looked up once.
-fn counts_of<'a>(
+/// What each unit has by machine. Each is looked up once.
+pub(crate) fn counts_of<'a>(
     alloc: Global,
     table: &'a GrantTable,
     units: &[Entry],
@@ -111,8 +103,8 @@ fn counts_of<'a>(
     Ok(counts)
 }
 
-// With those of a machine behind what is listed.
-fn list_machine(
+/// With those of a machine behind what is listed.
+pub(crate) fn list_machine(
     entries: &mut Vec<Entry>,
     units: &[Entry],
     counts: &[&[u32]],
@@ -131,26 +123,4 @@ fn list_machine(
         entries.push(recounted(&units[at], count))?;
     }
     Ok(())
-}
-
-/// The entries of all machines, of units that have grants, which stand in the order of the walk.
-pub(crate) fn listing_of(
-    alloc: Global,
-    table: &GrantTable,
-    holders: &[Entry],
-) -> Result<Listing, OutOfMemory>
-    requires { AreHolders table.now holders.now }
-    ensures { IfOk result (AreWalked table.now) }
-{
-    let machines = table.cluster().machines();
-    let counts = counts_of(alloc, table, holders)?;
-    let mut starts = Vec::with_capacity(alloc, machines as usize + 1)?;
-    starts.push(0)?;
-    // Most units hold on a few machines. Where they hold on more it grows.
-    let mut entries = Vec::with_capacity(alloc, holders.len() * 8)?;
-    for machine in 0..machines {
-        list_machine(&mut entries, holders, &counts, machine)?;
-        starts.push(entries.len())?;
-    }
-    Ok(Listing { entries, starts })
 }

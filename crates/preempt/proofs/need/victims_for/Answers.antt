@@ -11,12 +11,12 @@ use Rattle.preempt.proofs.NeedsAsWritten.{if_ok}
 use Rattle.preempt.proofs.need.victims_for.Goals as goal
 
 -- what is given on the machine
-given : (c : goal.After-victims_on) (t : TableRecord) (m : ℕ) → IsSound t → AreGroups t c.args.groups.now → IsEntry t c.args.e.now → IsWanted t c.args.e.now.app.0 c.args.e.now.unit.0 c.args.need.now → IsShelf t c.args.groups.now m c.args.shelf.now
+given : (c : goal.After-victims_on) (t : TableRecord) (m : ℕ) → IsSound t → AreGroups t c.args.groups.now → IsEntry t c.args.e.now → IsWanted t c.args.e.now.app.0 c.args.e.now.unit.0 c.args.need.now → IsShelf t m c.args.shelf.now
     → AreGiven t (spot c.args.e.now.app.0 c.args.e.now.unit.0 m) c.args.shelf.now.entries.now c.on_shelf-need.result c.args.groups.now
 given c t m sound groups entry wanted shelf = record {
   walk = shelf.walk;
   each = shelf.each;
-  need = c.on_shelf-need.ensures.need t c.args.groups.now m entry wanted shelf (resources_few t.cluster sound.valid);
+  need = c.on_shelf-need.ensures.need t m entry wanted shelf (resources_few t.cluster sound.valid);
   groups_are = groups;
 }
 

@@ -13,8 +13,8 @@ returns-then-not-is_within g c =
     none_found t (g.P.Asking.usable c.args.placer.now) (pair_of c.args.e.now)
     (all_beyond t c.args.e.now c.requires.entry n c.requires.wanted rooms c.requires.rooms (rooms_for t n rooms c.requires.rooms c.requires.kind) (sym c.is_within.ensures ∙ c.if-not-is_within.true))
 
-pub first_machine-requires-clause-rooms : goal.first_machine-requires-clause-rooms
-first_machine-requires-clause-rooms g c =
+pub first_within-requires-clause-rooms : goal.first_within-requires-clause-rooms
+first_within-requires-clause-rooms g c =
     let t = c.args.table.now in
     let n = c.args.need.now in
     let rooms = c.args.rooms.now in

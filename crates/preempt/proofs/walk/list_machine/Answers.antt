@@ -1,5 +1,4 @@
-use Rattle.std.proofs.Common.{◌≡◌, ℕ, ◌<◌, ◌≤◌, List, [], ◌∷◌, ◌++◌, length, get_or, take, drop, sym, ◌∙◌, ap, subst, arith, append_assoc, length-append}
-use Rattle.std.specs.Borrow.{Bor}
+use Rattle.std.proofs.Common.{◌≡◌, ◌<◌, ◌≤◌, [], ◌∷◌, ◌++◌, length, get_or, take, drop, sym, ◌∙◌, ap, subst, arith, append_assoc, length-append}
 use Rattle.std.proofs.lemmas.Bool.Decides.{nat_tests}
 use Rattle.std.proofs.lemmas.List.{drop-append-le, take_all}
 use Rattle.std.proofs.lemmas.Option.{slice_get-get_or}
@@ -8,14 +7,10 @@ use Rattle.preempt.specs.Given.{IsEntry, recounted}
 use Rattle.preempt.specs.Shelves.{IsListed}
 use Rattle.preempt.proofs.CountedAsWritten.{at_index}
 use Rattle.preempt.proofs.ListedLemmas.{none_listed, some_listed}
-use Rattle.preempt.proofs.Served.{no_entry}
+use Rattle.preempt.proofs.Served.{no_entry, no_row}
 use Rattle.preempt.proofs.walk.list_machine.Goals as goal
 
-no_row : Bor (List ℕ)
-no_row = record { ref_ptr = (0, 0); now = [] }
-
 pub loop-at-preserved-then-count-eq0 : goal.loop-at-preserved-then-count-eq0
-unfolding no_row
 loop-at-preserved-then-count-eq0 c =
     let units = c.args.units.now in
     let k = c.loop-at.at in
@@ -31,7 +26,6 @@ loop-at-preserved-then-count-eq0 c =
     }
 
 pub loop-at-preserved : goal.loop-at-preserved
-unfolding no_row
 loop-at-preserved c =
     let units = c.args.units.now in
     let k = c.loop-at.at in
