@@ -12,4 +12,5 @@ pub mod UnitKeys
 pub mod InOrder
 pub mod Touched
 pub mod OneJobLemmas
+pub mod TableJobs
 pub mod Slots

@@ -21,7 +21,7 @@ use Rattle.fuxi_terms.specs.Tallies.{empty_tally, patched_tally}
 use Rattle.fuxi_terms.specs.TallyKeys.{reported_key, count_key, greatest_grant, credited_what}
 use Rattle.fuxi_terms.specs.declared.Key.{Key}
 use Rattle.fuxi_terms.specs.declared.answers.LedgerFault.TheVariants.{Below, TooGreat}
-use Rattle.fuxi_terms.proofs.Booleans.{nat_itself, or_false}
+use Rattle.fuxi_terms.proofs.Booleans.{eq_turned, nat_itself, or_false}
 use Rattle.fuxi_terms.proofs.CountsLemmas.{both_true, tied, same_counts, counts-where_key, count_where}
 use Rattle.fuxi_terms.proofs.KeyOrders.{spot_total, same_spot}
 use Rattle.fuxi_terms.proofs.NumbersLemmas.{among, with_is}
@@ -29,11 +29,12 @@ use Rattle.ledger_law.specs.Shapes.{IsTally}
 use Rattle.core_side.specs.Bodies.{tally_of}
 use Rattle.written_roles.specs.MasterSteps.{count_entries}
 use Rattle.broadcast.specs.Projections.{grant_entries}
+use Rattle.schedule_unit.specs.declared.party.AppNo.{AppNo}
 use Rattle.schedule_unit.specs.declared.party.MachineNo.{MachineNo}
 use Rattle.grant_table.specs.GrantTables.{TableRecord, IsSound}
 use Rattle.broadcast.specs.AllShown.{App, is_job, credited_in, credited_after, grants_after, with_reported, GrantsAreBefore, ShowsGrants, IsShownAnew, ShowsAllGrants}
 use Rattle.broadcast.specs.OfNumbers.{of_number, AreReached}
-use Rattle.broadcast.specs.OneJob.{counts_at, under_job, reported_now, machines_of, JobIsBefore, IsSlotShown, IsNotOf}
+use Rattle.broadcast.specs.OneJob.{counts_at, under_job, reported_now, machines_of, named_job, JobIsBefore, IsSlotShown, IsNotOf}
 use Rattle.broadcast.specs.declared.grants.News.{News}
 use Rattle.broadcast.proofs.OfNumbersLemmas.{of_mapped}
 use Rattle.broadcast.proofs.ShownLemmas.{shown_kept}
@@ -147,8 +148,13 @@ module _ (t : TableRecord) (sound : IsSound t) (ss : List Spot) (news : News) (n
           let entries = g.each a d there n.admitted in
           λ i. record { head = boot i; entries = (entries ∙ (λ j. grant_entries a (machines j) (g.before) (credited j)) ∙ ap (λ es. map (λ m. (reported_key m, 1)) now ++ (es ++ credited_after news a d)) counts) i }
 
+-- a job that is not the one that may be named
+pub not_named : (o : Option AppNo) (a : ℕ) → has_number a (named_job o) ≡ false → is_job o a ≡ false
+not_named None a left = refl
+not_named (Some n) a left = eq_turned n.0 a ∙ sym (or_false (nat_eq a n.0)) ∙ left
+
 -- all are shown: those that were not looked at have what they are to have
-pub all_shown : (t : TableRecord) (ss : List Spot) (news : News) (due : List ℕ) (old new : List (Option App)) → IsSound t → AreReached (IsSlotShown (counts_at t ss) news) due old new
+pub all_shown : (t : TableRecord) (ss : List Spot) (news : News) (due : List ℕ) (old new : List (Option App)) → IsSound t → AreReached (IsSlotShown (map under_job (counts_at t ss)) news) due old new
     → ((a : ℕ) (d : App) → slice_get old a ≡ Some (Some d) → has_number a due ≡ false → (count_entries a (counts_at t ss) ≡ []) × IsNotOf news a) → (now : List ℕ) → GrantsAreBefore t ss news now old → ShowsAllGrants t news now old new
 all_shown t ss news due old new sound h rest now g = record {
   wide = h.wide;
@@ -159,7 +165,7 @@ all_shown t ss news due old new sound h rest now g = record {
   some = λ a d e. elim (has_number a due) as (λ b. has_number a due ≡ b → IsShownAnew t news now a d new) [
     | true ↦ λ is.
         let s = (h.each a (Some d) (get_or new a None) is e (there a (Some d) e)).some d refl in
-        record { new = s.new; there = there a (Some d) e ∙ ap (λ o. Some o) s.there; shows = s.shows t now (job_is_before t sound ss news now old g a d e) }
+        record { new = s.new; there = there a (Some d) e ∙ ap (λ o. Some o) s.there; shows = s.shows t now (subst (λ cs. JobIsBefore t news now a cs d) (sym (counts_of a (counts_at t ss))) (job_is_before t sound ss news now old g a d e)) }
     | false ↦ λ is.
         let q = rest a d e is in
         record { new = d; there = h.rest a is ∙ e; shows = quiet t sound ss news now old g a d e q.0 q.1 }
@@ -168,3 +174,9 @@ all_shown t ss news due old new sound h rest now g = record {
   where
     there : (a : ℕ) (o : Option App) → slice_get old a ≡ Some o → slice_get new a ≡ Some (get_or new a None)
     there a o e = slice_get-get_or new a None (let wide = h.wide in let lt = slice_get_within old a o e in omega (arith, wide, lt))
+
+-- where no grant changed, and all that the news bring is of one job, that one alone is looked at
+pub quietly_shown : (t : TableRecord) (news : News) (old new : List (Option App)) → IsSound t → news.reported ≡ None → news.admitted ≡ None → AreReached (IsSlotShown [] news) (named_job news.job) old new
+    → (now : List ℕ) → GrantsAreBefore t [] news now old → ShowsAllGrants t news now old new
+quietly_shown t news old new sound reported admitted h = all_shown t [] news (named_job news.job) old new sound h
+    (λ a d there left. (refl, record { reported = reported; admitted = ap (λ o. is_job o a) admitted; job = not_named news.job a left }))

@@ -4,7 +4,7 @@ use Rattle.std.specs.List.{AllByRecursion, list_any}
 use Rattle.std.specs.Ordering.{nat_cmp, eq_by_cmp}
 use Rattle.std.specs.FinMap.Entries.{is_sorted, where_key}
 use Rattle.fuxi_terms.specs.Counts.{count, AreCounts}
-use Rattle.fuxi_terms.specs.Jobs.{unit_count}
+use Rattle.fuxi_terms.specs.Jobs.{unit_count, is_known}
 use Rattle.fuxi_terms.specs.Keys.{RowKey, Spot, spot_cmp, key_cmp}
 use Rattle.fuxi_terms.specs.Limits.{greatest_count, most_machines}
 use Rattle.fuxi_terms.specs.Numbers.{with_number}
@@ -133,3 +133,7 @@ pub record ShowsAllGrants (t : TableRecord) (news : News) (now : List ℕ) (old 
 -- the last indices of all applications are below 2^62
 abbrev pub HaveRoom : List (Option App) → Type 0
 HaveRoom apps = (a : ℕ) (d : App) → slice_get apps a ≡ Some (Some d) → d.outgoing.last < 2 ^ 62
+
+-- each application is that of a job of the table
+abbrev pub HaveJobs : TableRecord → List (Option App) → Type 0
+HaveJobs t apps = (a : ℕ) (d : App) → slice_get apps a ≡ Some (Some d) → is_known (as_known t.jobs) a ≡ true

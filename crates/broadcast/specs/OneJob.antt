@@ -9,12 +9,14 @@ use Rattle.fuxi_terms.specs.Numbers.{has_number}
 use Rattle.fuxi_terms.specs.Limits.{most_machines}
 use Rattle.fuxi_terms.specs.TallyKeys.{reported_key, count_key, credited_what, greatest_grant}
 use Rattle.fuxi_terms.specs.declared.Key.{Key}
+use Rattle.schedule_unit.specs.declared.party.AppNo.{AppNo}
 use Rattle.schedule_unit.specs.declared.party.MachineNo.{MachineNo}
 use Rattle.written_roles.specs.MasterSteps.{count_entries}
 use Rattle.fuxi_terms.specs.NumbersSet.{AreNumbers, IsSetTo}
 use Rattle.fuxi_terms.specs.Tables.{Table}
 use Rattle.grant_table.specs.GrantTables.{TableRecord, IsSound}
 use Rattle.broadcast.specs.declared.grants.News.{News}
+use Rattle.broadcast.specs.OfNumbers.{of_number}
 use Rattle.broadcast.specs.TouchedNumbers.{has_place}
 use Rattle.broadcast.specs.AllShown.{App, is_job, ShowsJob, ShowsGrants}
 
@@ -64,6 +66,11 @@ credited_to news a = cond (is_job news.job a) news.credited.items []
 abbrev pub numbers_of : News → ℕ → List (Key × ℕ) → List (Key × ℕ)
 numbers_of news a counts = reported_numbers (machines_of news a) ++ (counts ++ credited_to news a)
 
+-- the job that may be named
+abbrev pub named_job : Option AppNo → List ℕ
+named_job None = []
+named_job (Some n) = n.0 ∷ []
+
 -- an application is shown an earlier map, which these counts take to that of the table
 pub record JobIsBefore (t : TableRecord) (news : News) (now : List ℕ) (a : ℕ) (counts : List (Key × ℕ)) (d : App) : Type 0 where
   pub sound : IsSound t
@@ -83,7 +90,7 @@ pub record SlotIsShown (news : News) (a : ℕ) (counts : List (Key × ℕ)) (old
   pub there : slot ≡ Some new
   pub shows : (t : TableRecord) (now : List ℕ) → JobIsBefore t news now a counts old → ShowsGrants t news now a old new
 
--- an empty slot stays empty, and the application of another is shown what the table has at these spots
-pub record IsSlotShown (touched : Table) (news : News) (a : ℕ) (was slot : Option App) : Type 0 where
+-- an empty slot stays empty, and the application of another is shown these counts, as far as they are of its job
+pub record IsSlotShown (counts : List (ℕ × (Key × ℕ))) (news : News) (a : ℕ) (was slot : Option App) : Type 0 where
   pub none : was ≡ None → slot ≡ None
-  pub some : (d : App) → was ≡ Some d → SlotIsShown news a (count_entries a touched) d slot
+  pub some : (d : App) → was ≡ Some d → SlotIsShown news a (of_number a counts) d slot

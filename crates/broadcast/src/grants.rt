@@ -1,21 +1,22 @@
 //! Grants, by job.
 
-ghost use Rattle.std.specs.Prelude.{◌≡◌, ◌<◌, ◌^◌, ◌||◌, ◌++◌, true, false, nat_eq, ℕ, T, List, Some, None, map, slice_get, IfOk, OnOk};
+ghost use Rattle.std.specs.Prelude.{◌≡◌, ◌<◌, ◌^◌, ◌||◌, ◌++◌, [], true, false, nat_eq, ℕ, T, List, Some, None, map, slice_get, IfOk, OnOk};
 ghost use Rattle.std.specs.Ordering.{nat_cmp};
 ghost use Rattle.std.specs.List.Sorted.{IsNonDecreasingBy, IsStrictlySortedBy};
 ghost use Rattle.std.specs.FinMap.Entries.{is_sorted};
 ghost use Rattle.schedule_unit.specs.declared.party.MachineNo.{MachineNo as MachineSeen};
 ghost use Rattle.std.specs.List.{AllByRecursion};
+ghost use Rattle.fuxi_terms.specs.Jobs.{is_known};
 ghost use Rattle.fuxi_terms.specs.Numbers.{has_number};
 ghost use Rattle.fuxi_terms.specs.Counts.{count};
 ghost use Rattle.fuxi_terms.specs.Keys.{key_cmp, spot_cmp};
 ghost use Rattle.fuxi_terms.specs.TallyKeys.{reported_key, count_key, greatest_grant, credited_what};
 ghost use Rattle.fuxi_terms.specs.NumbersSet.{AreNumbers};
-ghost use Rattle.grant_table.specs.GrantTables.{TableRecord};
-ghost use Rattle.broadcast.specs.AllShown.{App, spot_of, is_job, AreInOrder, GrantsAreBefore, ShowsGrants, ShowsAllGrants, HaveRoom};
-ghost use Rattle.broadcast.specs.OfNumbers.{of_number};
+ghost use Rattle.grant_table.specs.GrantTables.{TableRecord, as_known};
+ghost use Rattle.broadcast.specs.AllShown.{App, spot_of, is_job, AreInOrder, GrantsAreBefore, ShowsGrants, ShowsAllGrants, HaveRoom, HaveJobs};
+ghost use Rattle.broadcast.specs.OfNumbers.{of_number, AreReached};
 ghost use Rattle.broadcast.specs.TouchedNumbers.{has_place};
-ghost use Rattle.broadcast.specs.OneJob.{counts_at, under_job, IsNotOf, AreNumbersOf, IsNews, machines_of, reported_now, reported_numbers, credited_to, numbers_of, JobIsBefore, SlotIsShown};
+ghost use Rattle.broadcast.specs.OneJob.{counts_at, under_job, IsNotOf, AreNumbersOf, IsNews, machines_of, reported_now, reported_numbers, credited_to, numbers_of, named_job, JobIsBefore, SlotIsShown, IsSlotShown};
 
 use crate::job_grants::show_grants;
 use crate::law;
@@ -59,8 +60,8 @@ impl Drop for News {
 
 /// Shows each application, by the number of its job, its grants: one change of them, where they are others or the job was admitted. The head is the
 /// boot that is known of it; a new boot loses what was credited. The spots are those at which grants changed since, in order; each last
-/// index is below 2^62. It costs the spots and a search for each job that they or the news name; where a machine is reported, a look at each
-/// slot and a search for each application.
+/// index is below 2^62. It costs the spots and a search for each job that they or the news name; where a machine is reported, a search for
+/// each job of the table.
 ///
 /// Want of memory leaves some of the applications shown.
 pub fn show_all_grants(
@@ -72,6 +73,7 @@ pub fn show_all_grants(
 ) -> Result<(), OutOfMemory>
     requires order { AreInOrder (map spot_of spots.now) }
     requires room { HaveRoom apps.old.items }
+    requires admitted { HaveJobs table.now apps.old.items }
     requires machines { T (is_sorted {X = ℕ} nat_cmp (map (λ (m : MachineSeen). (m.0, 0)) news.now.machines.items)) }
     requires below { AllByRecursion (λ (m : MachineSeen). m.0 < 256) news.now.machines.items }
     requires credited { AreNumbers key_cmp greatest_grant news.now.credited.items }
@@ -79,31 +81,75 @@ pub fn show_all_grants(
     ensures { OnOk result ((now : List ℕ) → GrantsAreBefore table.now (map spot_of spots.now) news.now now apps.old.items → ShowsAllGrants table.now news.now now apps.old.items apps.new.items) }
 {
     let _cluster = table.cluster();
+    if is_quiet(spots, news) {
+        return show_named(apps, alloc, news);
+    }
     let counts = counts_at(alloc, table, spots)?;
-    let jobs = jobs_due(alloc, &counts, news, apps)?;
+    let jobs = jobs_due(alloc, &counts, news, table)?;
+    show_jobs(apps, alloc, &jobs, &counts, news)
+}
+
+// Shows the applications of these jobs their grants. The numbers of one after another lie in one place.
+fn show_jobs(
+    apps: &mut Vec<Option<Side<Grants, Demand>>>,
+    alloc: Global,
+    jobs: &[usize],
+    counts: &[(usize, (Key, u64))],
+    news: &News,
+) -> Result<(), OutOfMemory>
+    requires room { HaveRoom apps.old.items }
+    requires rising { IsStrictlySortedBy nat_cmp jobs.now }
+    requires order { IsNonDecreasingBy (λ e. e.0) counts.now }
+    requires counts { (a : ℕ) → AreNumbersOf 2 (of_number a counts.now) }
+    requires news { IsNews news.now }
+    ensures { OnOk result (AreReached (IsSlotShown counts.now news.now) jobs.now apps.old.items apps.new.items) }
+{
     let mut numbers = Vec::new(alloc);
-    for job in &jobs {
+    for job in jobs {
         let app = *job;
         if app >= apps.len() {
             continue;
         }
-        show_slot(&mut apps[app], alloc, app, &counts, news, &mut numbers)?;
+        show_slot(&mut apps[app], alloc, app, counts, news, &mut numbers)?;
     }
     Ok(())
 }
 
-// The jobs with counts and those of the news: no other grants can have changed. Where a machine is reported, all with an application.
+// Whether no grant changed, and all that the news bring is of one job: so it is at most steps.
+fn is_quiet(spots: &[Pick], news: &News) -> bool
+    ensures narrow { result ≡ true → (spots.now ≡ []) × ((news.now.reported ≡ None) × (news.now.admitted ≡ None)) }
+{
+    spots.is_empty() && news.reported.is_none() && news.admitted.is_none()
+}
+
+// Shows the application of the job of the news its grants, with the counts that it has. No list is made of one job.
+fn show_named(
+    apps: &mut Vec<Option<Side<Grants, Demand>>>,
+    alloc: Global,
+    news: &News,
+) -> Result<(), OutOfMemory>
+    requires room { HaveRoom apps.old.items }
+    requires news { IsNews news.now }
+    ensures { OnOk result (AreReached (IsSlotShown [] news.now) (named_job news.now.job) apps.old.items apps.new.items) }
+{
+    match news.job {
+        Some(job) => show_jobs(apps, alloc, &[job.0 as usize], &[], news),
+        None => Ok(()),
+    }
+}
+
+// The jobs with counts and those of the news: no other grants can have changed. Where a machine is reported, all of the table.
 fn jobs_due(
     alloc: Global,
     counts: &[(usize, (Key, u64))],
     news: &News,
-    apps: &[Option<Side<Grants, Demand>>],
+    table: &GrantTable,
 ) -> Result<Vec<usize>, AllocError>
     ensures rising { IfOk result (λ due. IsStrictlySortedBy nat_cmp due.items) }
-    ensures all { IfOk result (λ due. (a : ℕ) (d : App) → slice_get apps.now a ≡ Some (Some d) → has_number a due.items ≡ false → (has_number a (map (λ e. e.0) counts.now) ≡ false) × IsNotOf news.now a) }
+    ensures all { IfOk result (λ due. (a : ℕ) → is_known (as_known table.now.jobs) a ≡ true → has_number a due.items ≡ false → (has_number a (map (λ e. e.0) counts.now) ≡ false) × IsNotOf news.now a) }
 {
     if news.reported.is_some() {
-        return all_jobs(alloc, apps);
+        return all_jobs(alloc, table);
     }
     let mut due = numbers_of(alloc, counts)?;
     put_job(&mut due, news.admitted)?;
@@ -112,17 +158,16 @@ fn jobs_due(
     Ok(due)
 }
 
-// All jobs with an application, from the first on: most slots have none, and are not looked at again.
-fn all_jobs(alloc: Global, apps: &[Option<Side<Grants, Demand>>]) -> Result<Vec<usize>, AllocError>
+// All jobs of the table, from the first on: none but these has an application.
+fn all_jobs(alloc: Global, table: &GrantTable) -> Result<Vec<usize>, AllocError>
     ensures rising { IfOk result (λ all. IsStrictlySortedBy nat_cmp all.items) }
-    ensures all { IfOk result (λ all. (a : ℕ) (d : App) → slice_get apps.now a ≡ Some (Some d) → has_number a all.items ≡ true) }
+    ensures all { IfOk result (λ all. (a : ℕ) → is_known (as_known table.now.jobs) a ≡ true → has_number a all.items ≡ true) }
 {
-    let mut all = Vec::with_capacity(alloc, apps.len())?;
-    for (job, slot) in apps.iter().enumerate() {
-        if slot.is_none() {
-            continue;
-        }
-        all.push(job)?;
+    let _cluster = table.cluster();
+    let jobs = table.jobs();
+    let mut all = Vec::with_capacity(alloc, jobs as usize)?;
+    for index in 0..jobs {
+        all.push(table.job(index).app().0 as usize)?;
     }
     Ok(all)
 }
@@ -199,8 +244,7 @@ fn set_numbers(
     numbers.clear();
     put_machines(numbers, news, app)?;
     put_counts(numbers, app, counts)?;
-    numbers.extend_from_slice(credited_to(news, app))?;
-    Ok(())
+    put_credited(numbers, news, app)
 }
 
 // The machines that are set in the grants of a job.
@@ -268,14 +312,14 @@ fn reported(machine: MachineNo) -> (Key, u64)
 }
 
 // What is credited to a job.
-fn credited_to(news: &News, app: usize) -> &[(Key, u64)]
-    ensures { result.now ≡ credited_to news.now app }
+fn put_credited(numbers: &mut Vec<(Key, u64)>, news: &News, app: usize) -> Result<(), OutOfMemory>
+    ensures { OnOk result (numbers.new.items ≡ numbers.old.items ++ credited_to news.now app) }
 {
-    if is_job(news.job, app) {
-        &news.credited
-    } else {
-        &[]
+    if !is_job(news.job, app) {
+        return Ok(());
     }
+    numbers.extend_from_slice(&news.credited)?;
+    Ok(())
 }
 
 // Whether it is the job with this number.

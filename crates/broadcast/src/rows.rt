@@ -1,6 +1,6 @@
 //! Rows, by machine.
 
-ghost use Rattle.std.specs.Prelude.{◌≡◌, ◌<◌, ◌^◌, ◌||◌, true, ℕ, [], length, map, IfOk, OnOk};
+ghost use Rattle.std.specs.Prelude.{◌≡◌, ◌<◌, ◌^◌, ◌||◌, true, ℕ, [], length, map, None, IfOk, OnOk};
 ghost use Rattle.std.specs.List.{AllByRecursion};
 ghost use Rattle.std.specs.List.Sorted.{IsNonDecreasingBy, IsStrictlySortedBy};
 ghost use Rattle.std.specs.Ordering.{nat_cmp};
@@ -46,6 +46,9 @@ pub fn show_all_rows(
 {
     let _cluster = table.cluster();
     law::rows_follow_tables();
+    if is_quiet(spots, forced) {
+        return Ok(());
+    }
     let numbers = by_machine(alloc, table, spots)?;
     let machines = machines_due(alloc, &numbers, forced)?;
     for machine in &machines {
@@ -56,6 +59,13 @@ pub fn show_all_rows(
         show_one(&mut sides[at], alloc, at, &numbers, forced)?;
     }
     Ok(())
+}
+
+// Whether no grant changed, and no row is forced: so it is at most steps.
+fn is_quiet(spots: &[Pick], forced: Option<MachineNo>) -> bool
+    ensures narrow { result ≡ true → (spots.now ≡ []) × (forced ≡ None) }
+{
+    spots.is_empty() && forced.is_none()
 }
 
 // Shows an agent its row with the numbers of its machine.

@@ -19,6 +19,7 @@ ghost use Rattle.fuxi_master.specs.Steps.{is_peer};
 use crate::state::Core;
 use core_side::Side;
 use fuxi_terms::OutOfMemory;
+use grant_table::law;
 use party_ledgers::{Demand, Grants, JoinLedger, Packets, RowLedger};
 use schedule_unit::{Party, Role};
 use std::alloc::Global;
@@ -57,12 +58,13 @@ impl Core {
             ≡ map parcel_is packets.old ++ flat_map (λ q. turn_parcels (master_party r.state) q (r.sides q)) (map app_id (job_numbers r.state.jobs))) }
         ensures formed { AllByRecursion IsSent packets.old → OnOk result (AllByRecursion IsSent packets.new) }
     {
+        law::admitted_jobs();
         let _jobs = self.known.jobs();
-        for number in 0..self.apps.len() {
-            let Some(side) = &self.apps[number] else {
-                continue;
-            };
-            side.turn(alloc, 0, number as u32, packets)?;
+        let table = self.allotment.table();
+        let _sound = table.cluster();
+        for index in 0..table.jobs() {
+            let app = table.job(index).app();
+            self.app(app.0).turn(alloc, 0, app.0, packets)?;
         }
         Ok(())
     }

@@ -1,8 +1,7 @@
 //! How a master starts.
 
-ghost use Rattle.std.specs.Prelude.{◌≡◌, ◌<◌, [], length, Option, Some, None, is_some, IfOk, IfSome};
+ghost use Rattle.std.specs.Prelude.{◌≡◌, ◌<◌, [], length, IfOk};
 ghost use Rattle.std.specs.List.{AllByRecursion};
-ghost use Rattle.fuxi_terms.specs.Jobs.{is_known};
 ghost use Rattle.written_roles.specs.MasterRoles.{master_started};
 ghost use Rattle.written_roles.specs.HardState.{HardState};
 ghost use Rattle.allotment.specs.Allotted.{AllWait};
@@ -49,23 +48,7 @@ fn app_started(alloc: Global, epoch: u64) -> Result<Side<Grants, Demand>, OutOfM
     Ok(side)
 }
 
-// The end of the channel with the application of this number, where its job is known.
-fn slot_started(
-    alloc: Global,
-    epoch: u64,
-    known: &Known,
-    app: AppNo,
-) -> Result<Option<Side<Grants, Demand>>, OutOfMemory>
-    ensures known { IfOk result (λ slot. is_some slot ≡ is_known known.now.jobs app.0) }
-    ensures started { IfOk result (λ slot. IfSome slot (IsAppStarted epoch)) }
-{
-    let Some(_) = known.job(app) else {
-        return Ok(None);
-    };
-    Ok(Some(app_started(alloc, epoch)?))
-}
-
-// The ends of the channels with the applications of known jobs, by job number.
+// The ends of the channels with the applications of known jobs, by job number. Most slots are empty.
 fn apps_started(
     alloc: Global,
     epoch: u64,
@@ -75,7 +58,11 @@ fn apps_started(
 {
     let mut slots = Vec::with_capacity(alloc, MOST_JOBS as usize)?;
     for number in 0..MOST_JOBS {
-        slots.push(slot_started(alloc, epoch, known, AppNo(number))?)?;
+        if known.job(AppNo(number)).is_none() {
+            slots.push(None)?;
+            continue;
+        }
+        slots.push(Some(app_started(alloc, epoch)?))?;
     }
     Ok(slots)
 }

@@ -10,12 +10,23 @@ use Rattle.fuxi_terms.specs.Rows.{IsRow, patched_row}
 use Rattle.written_net.specs.Ledgers.{row_ledger}
 use Rattle.core_side.specs.Bodies.{report_of}
 use Rattle.broadcast.specs.Shown.{number_of, Shows}
+use Rattle.grant_table.specs.declared.asking.Pick.{Pick}
 use Rattle.broadcast.specs.AllShown.{Down, spot_of, is_machine}
 use Rattle.broadcast.specs.OfNumbers.{of_number}
+use Rattle.broadcast.specs.TouchedNumbers.{touched_on}
 use Rattle.broadcast.specs.declared.machine_row.RowNumber.{RowNumber}
 use Rattle.broadcast.proofs.OfNumbersLemmas.{none_of, none_reached, turn, reached_over, reached_next}
 use Rattle.broadcast.proofs.ShownRows.{ShowsRow, set_at, row_at, all_shown}
 use Rattle.broadcast.proofs.rows.show_all_rows.Goals as goal
+
+pub returns-then-is_quiet : goal.returns-then-is_quiet
+returns-then-is_quiet c =
+    let t = c.args.table.now in
+    let old = c.args.sides.now.items in
+    let quiet = c.is_quiet.ensures.narrow c.if-is_quiet.true in
+    all_shown t c.cluster-cluster.ensures.sound (map spot_of c.args.spots.now) c.requires.order c.args.forced old old c.requires.before c.rows_follow_tables.ensures []
+    (λ m lt left. (sym (ap (λ (ps : List Pick). touched_on t m (map spot_of ps)) quiet.0), ap (λ o. is_machine o m) quiet.1))
+    (none_reached (ShowsRow t c.args.forced) old)
 
 pub loop-machine-init : goal.loop-machine-init
 loop-machine-init c = none_reached (ShowsRow c.args.table.now c.args.forced) c.args.sides.now.items

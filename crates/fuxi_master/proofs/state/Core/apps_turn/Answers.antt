@@ -1,60 +1,52 @@
-use Rattle.std.proofs.Common.{rules, ◌≡◌, ◌++◌, ℕ, ◌<◌, true, false, Option, Some, length, map, slice_get, refl, sym, ◌∙◌, ap, arith}
-use Rattle.std.specs.Option.{is_some}
+use Rattle.std.proofs.Common.{◌≡◌, ◌++◌, ◌∷◌, [], Some, length, map, take, slice_get, sym, ◌∙◌, ap, arith}
 use Rattle.std.specs.List.{flat_map}
-use Rattle.std.proofs.lemmas.Option.{slice_get_read}
+use Rattle.std.proofs.lemmas.List.{take_all}
 use Rattle.fuxi_terms.specs.Jobs.{is_known, job_numbers}
 use Rattle.written_net.specs.Channels.{app_id}
 use Rattle.core_side.specs.Parcels.{parcel_is}
+use Rattle.grant_table.specs.GrantTables.{TableRecord, as_known}
 use Rattle.fuxi_master.specs.Seen.{core_of}
-use Rattle.fuxi_master.proofs.TurnPackets.{sent_to, all_known, app_next, app_passed, slot_known}
+use Rattle.fuxi_master.proofs.Projected.{known_alike}
+use Rattle.fuxi_master.proofs.TurnPackets.{sent_to, app_next, known_at, numbers_in, numbers_more}
 use Rattle.fuxi_master.proofs.state.Core.apps_turn.Goals as goal
 
-pub loop-number-preserved-in_default : goal.loop-number-preserved-in_default
-loop-number-preserved-in_default c =
+pub app-requires-clause-peer : goal.app-requires-clause-peer
+app-requires-clause-peer c =
     let x = core_of c.args.self.now in
-    let n = c.loop-number.number in
-    let lt = c.loop-number-test.true in
-    let wide = c.len-number-end.ensures in
-    let there = slice_get_read x.apps (length x.apps) n c.index.result.now refl (omega (arith, lt, wide)) c.index.ensures in
-    let none : is_some c.index.result.now ≡ false = search rules in
-    let unknown : is_known x.known.jobs n ≡ false = slot_known x c.requires.near.kept n c.index.result.now there ∙ none in
-    record {
-      within = omega (arith, lt, wide);
-      sends = λ r h. c.loop-number.invariant.sends r h ∙ ap (λ ns. map parcel_is c.args.packets.now ++ flat_map (sent_to r) (map app_id ns)) (sym (app_passed x n unknown));
-      formed = c.loop-number.invariant.formed;
-    }
+    let js = x.allotment.table.jobs in
+    let j = c.job.result.now in
+    let there : slice_get js c.loop-index.index ≡ Some j = ap (λ (t : TableRecord). slice_get t.jobs c.loop-index.index) (sym c.table-table.ensures) ∙ c.job.ensures in
+    ap (is_known x.known.jobs) c.app-app.ensures.number ∙ sym (known_alike (as_known js) x.known.jobs j.number (c.requires.near.kept.jobs j.number)) ∙ known_at js c.loop-index.index j there
 
 pub turn-requires-clause-started : goal.turn-requires-clause-started
 turn-requires-clause-started c =
-    let x = core_of c.args.self.now in
-    let n = c.loop-number.number in
-    let lt = c.loop-number-test.true in
-    let wide = c.len-number-end.ensures in
-    let there : slice_get x.apps n ≡ Some (Some c.in-Some.side) = slice_get_read x.apps (length x.apps) n c.index.result.now refl (omega (arith, lt, wide)) c.index.ensures ∙ ap {A = Option _} (λ o. Some o) c.in-Some.is in
-    let own = c.requires.near.kept.apps_own n c.in-Some.side there in
+    let own = c.requires.near.kept.apps_own c.app-app.result.0 c.app.result.now c.app.ensures.there in
     let epoch = c.requires.near.kept.epoch in
     omega (arith, own, epoch)
 
-pub loop-number-preserved : goal.loop-number-preserved
-loop-number-preserved c =
+pub loop-index-preserved : goal.loop-index-preserved
+loop-index-preserved c =
     let x = core_of c.args.self.now in
-    let n = c.loop-number.number in
-    let lt = c.loop-number-test.true in
-    let wide = c.len-number-end.ensures in
-    let there : slice_get x.apps n ≡ Some (Some c.in-Some.side) = slice_get_read x.apps (length x.apps) n c.index.result.now refl (omega (arith, lt, wide)) c.index.ensures ∙ ap {A = Option _} (λ o. Some o) c.in-Some.is in
-    let known : is_known x.known.jobs n ≡ true = slot_known x c.requires.near.kept n (Some c.in-Some.side) there in
+    let js = x.allotment.table.jobs in
+    let i = c.loop-index.index in
+    let j = c.job.result.now in
+    let there : slice_get js i ≡ Some j = ap (λ (t : TableRecord). slice_get t.jobs i) (sym c.table-table.ensures) ∙ c.job.ensures in
+    let numbers = ap (λ n. numbers_in (take i js) ++ n ∷ []) c.app-app.ensures.number ∙ numbers_more js i j there in
     record {
-      within = omega (arith, lt, wide);
-      sends = λ r h. app_next x r h n c.args.packets.now c.loop-number.packets c.turn.new.packets c.in-Some.side there c.in_ok-turn.ensures.turns known (c.loop-number.invariant.sends r h);
-      formed = λ before. c.in_ok-turn.ensures.formed (c.loop-number.invariant.formed before);
+      sends = λ r h. app_next x r h c.app-app.result.0 c.args.packets.now c.loop-index.packets c.turn.new.packets c.app.result.now c.app.ensures.there c.in_ok-turn.ensures.turns (numbers_in (take i js)) (c.loop-index.invariant.sends r h)
+          ∙ ap (λ ns. map parcel_is c.args.packets.now ++ flat_map (sent_to r) (map app_id ns)) numbers;
+      formed = λ before. c.in_ok-turn.ensures.formed (c.loop-index.invariant.formed before);
     }
 
 pub returns-clause-sends : goal.returns-clause-sends
 returns-clause-sends c =
     let x = core_of c.args.self.now in
-    let n = c.loop-number.number in
-    let over = c.loop-number-test.false in
-    let wide = c.len-number-end.ensures in
-    let all = c.requires.near.kept.apps in
-    let few : (a : ℕ) → is_known x.known.jobs a ≡ true → a < n = λ a e. let lt = c.jobs-jobs.ensures.numbers a e in omega (arith, over, wide, all, lt) in
-    λ r h. c.loop-number.invariant.sends r h ∙ ap (λ ns. map parcel_is c.args.packets.now ++ flat_map (sent_to r) (map app_id ns)) (sym (all_known n x.known.jobs few) ∙ ap job_numbers (sym h.stands.jobs))
+    let js = x.allotment.table.jobs in
+    let i = c.loop-index.index in
+    let t = c.table-table.ensures in
+    let over = c.loop-index-test.false in
+    let many = c.jobs-index-end.ensures ∙ ap (λ (t : TableRecord). length t.jobs) t in
+    let all : take i js ≡ js = take_all i js (omega (arith, over, many)) in
+    let order = ap (λ (t : TableRecord). job_numbers (as_known t.jobs)) (sym t) ∙ c.admitted_jobs.ensures.numbers c.table-table.result.now.jobs c.cluster-sound.ensures.sound.in_order ∙ ap (λ (t : TableRecord). numbers_in t.jobs) t in
+    λ r h. c.loop-index.invariant.sends r h
+    ∙ ap (λ ns. map parcel_is c.args.packets.now ++ flat_map (sent_to r) (map app_id ns)) (ap numbers_in all ∙ sym order ∙ c.requires.near.kept.numbers ∙ ap job_numbers (sym h.stands.jobs))

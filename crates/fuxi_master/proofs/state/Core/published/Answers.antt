@@ -1,10 +1,12 @@
-use Rattle.std.proofs.Common.{◌≡◌, [], map, sym, ◌∙◌, ap, subst}
+use Rattle.std.proofs.Common.{◌≡◌, [], map, Some, sym, ◌∙◌, ap, subst}
 use Rattle.fuxi_terms.specs.Keys.{Spot}
-use Rattle.grant_table.specs.GrantTables.{TableRecord}
+use Rattle.fuxi_terms.specs.Jobs.{is_known}
+use Rattle.grant_table.specs.GrantTables.{TableRecord, as_known}
 use Rattle.allotment.specs.Allotted.{AllotmentRecord}
 use Rattle.broadcast.specs.AllShown.{spot_of, has_spot, RowsAreBefore, GrantsAreBefore, ShowsRows, ShowsAllGrants}
 use Rattle.fuxi_master.specs.StepEnds.{IsPublished}
 use Rattle.fuxi_master.specs.Seen.{core_of}
+use Rattle.fuxi_master.proofs.Projected.{known_alike}
 use Rattle.fuxi_master.proofs.Ordered.{rows_same, grants_same}
 use Rattle.fuxi_master.proofs.Published.{published}
 use Rattle.fuxi_master.proofs.state.Core.published.Goals as goal
@@ -17,6 +19,12 @@ show_all_rows-requires-clause-before c =
     let rows = rows_same x.allotment.table x.allotment.touched ordered same x.agents.items c.requires.mid.rows in
     subst (λ (t : TableRecord). RowsAreBefore t (map spot_of c.deref.result.now) x.agents.items) (sym c.table.ensures)
     (subst (λ ss. RowsAreBefore x.allotment.table ss x.agents.items) (sym (ap (map spot_of) c.deref.ensures.value)) rows)
+
+pub show_all_grants-requires-clause-admitted : goal.show_all_grants-requires-clause-admitted
+show_all_grants-requires-clause-admitted c a d there =
+    let x = c.args.self.now in
+    let kept = c.requires.mid.kept in
+    ap (λ (t : TableRecord). is_known (as_known t.jobs) a) c.table-2.ensures ∙ known_alike (as_known x.allotment.table.jobs) x.known.jobs a (kept.jobs a) ∙ sym (kept.slots a (Some d) there)
 
 pub returns : goal.returns
 returns c =
