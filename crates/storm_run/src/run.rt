@@ -17,10 +17,11 @@ use schedule_text::Event;
 use std::alloc::Global;
 use std::marker::Model;
 
-// The world of a storm. Seen as the world.
+// The world of a storm, with room for what an event prints. Seen as the world.
 #[derive(Drop)]
 pub(crate) struct Run {
     world: World,
+    text: Vec<u8>,
 }
 
 impl Model for Run {
@@ -39,7 +40,10 @@ impl Run {
         ensures events { IfOk result (λ run. run.events ≡ 0) }
     {
         match World::start(alloc, cluster) {
-            Ok(world) => Ok(Run { world }),
+            Ok(world) => Ok(Run {
+                world,
+                text: Vec::new(alloc),
+            }),
             Err(refusal) => Err(refusal),
         }
     }
@@ -57,10 +61,10 @@ impl Run {
         ensures runs { Runs (λ w. taken w (event_as event.now)) self result }
         ensures events { IfOk result (λ after. after.events ≡ self.events + 1) }
     {
-        let Run { world } = self;
-        let mut text = Vec::new(alloc);
+        let Run { world, text } = self;
+        let mut text = text;
         match world.step(alloc, event, &mut text) {
-            Ok(world) => Ok(Run { world }),
+            Ok(world) => Ok(Run { world, text }),
             Err(stop) => Err(stop),
         }
     }
