@@ -288,7 +288,7 @@ fn changes_from<A: Ledger>(
     ensures sends { IfOk result (λ notes. AllByRecursion (IsNoteOf sender.now) notes.items) }
     ensures brings { IfOk result (λ notes. (history : List A) → StandsFor A.nothing A.patched sender.now history → AllByRecursion (Brings A.patched history) notes.items) }
 {
-    let mut notes = Vec::new(alloc);
+    let mut notes = Vec::with_capacity(alloc, count as usize + 1)?;
     for offset in 0..count {
         let index = first + offset;
         let change = A::copy_delta(alloc, sender.kept(index))?;

@@ -22,7 +22,7 @@ module _ {K : Type 0} {R : K → K → Ordering} (o : IsTotalOrder R) where
   shorter e es k i h j f lt is = h (suc j) f (omega arith) is
 
   -- an entry of a list in order, below whose keys x is
-  below_at : (x : K) (es : List (K × ℕ)) (i : ℕ) (d : K × ℕ) → i < length es → T (below_all R x es) → R x (get_or es i d).0 ≡ Less
+  pub below_at : (x : K) (es : List (K × ℕ)) (i : ℕ) (d : K × ℕ) → i < length es → T (below_all R x es) → R x (get_or es i d).0 ≡ Less
   below_at x [] i d lt h = absurd (omega (arith, lt))
   below_at x (e ∷ es) zero d lt h = lesser _ (both_true (is_lt (R x e.0)) _ h).0
   below_at x (e ∷ es) (suc i) d lt h = below_at x es i d (omega (arith, lt)) (both_true (is_lt (R x e.0)) _ h).1

@@ -1,5 +1,5 @@
 -- What a binary search among entries in order finds.
-use Rattle.std.proofs.Common.{◌≡◌, ℕ, zero, suc, ◌+◌, ◌<◌, List, [], ◌∷◌, length, get_or, Result, Ok, Err, sym, ◌∙◌, ap, subst, arith, add-one}
+use Rattle.std.proofs.Common.{◌≡◌, ℕ, zero, suc, ◌+◌, ◌-◌, ◌<◌, ◌≤◌, List, [], ◌∷◌, length, slice_get, get_or, Some, Result, Ok, Err, sym, ◌∙◌, ap, subst, arith, add-one}
 use Rattle.std.specs.Prelude.{T}
 use Rattle.std.specs.Ordering.{is_lt, ordering_reverse, ordering_index}
 use Rattle.std.specs.Cmp.{IsTotalOrder, tied_back}
@@ -10,7 +10,8 @@ use Rattle.std.specs.List.Sorted.{IsSearchInRange, IsBinarySearchResult, IsNonDe
 use Rattle.std.proofs.lemmas.List.Sorted.{searchable_from_sorted}
 use Rattle.std.proofs.lemmas.Option.{get_or_from_slice_get, slice_get_within}
 use Rattle.fuxi_terms.proofs.CountsLemmas.{both_true, lesser}
-use Rattle.ledger_law.specs.Places.{IsPlace}
+use Rattle.ledger_law.specs.Places.{IsPlace, IsGap}
+use Rattle.ledger_law.proofs.PlacesLemmas.{below_at}
 
 module _ {K X : Type 0} (R : K → K → Ordering) where
   -- a key is below the next one
@@ -35,4 +36,22 @@ module _ {K : Type 0} {R : K → K → Ordering} (o : IsTotalOrder R) (k : K) wh
     within = in_range;
     before = λ j e lt is. o.antisymm k e.0 ∙ ap ordering_reverse (subst (λ x. R x.0 k ≡ Less) (get_or_from_slice_get es j e e is) ((parted (rises es s)).0 j e (omega arith) lt));
     above = λ e is. o.antisymm k e.0 ∙ ap ordering_reverse (subst (λ x. R x.0 k ≡ Greater) (get_or_from_slice_get es at e e is) ((parted (rises es s)).1 at e (omega arith) (slice_get_within es at e is)));
+  }
+
+  -- where an entry's key is below, so are those in front of it
+  front_below : (es : List (K × ℕ)) (n : ℕ) (l : K × ℕ) → T (is_sorted R es) → slice_get es n ≡ Some l → R l.0 k ≡ Less → (j : ℕ) (e : K × ℕ) → j ≤ n → slice_get es j ≡ Some e → R e.0 k ≡ Less
+  front_below [] n l s at less j e le is = absurd (omega (arith, slice_get_within [] n l at))
+  front_below (x ∷ es) zero l s at less zero e le is = subst (λ y. R y.0 k ≡ Less) (sym (get_or_from_slice_get (x ∷ es) 0 l x at) ∙ get_or_from_slice_get (x ∷ es) 0 e x is) less
+  front_below (x ∷ es) zero l s at less (suc j) e le is = absurd (omega (arith, le))
+  front_below (x ∷ es) (suc n) l s at less zero e le is =
+      let first : R x.0 l.0 ≡ Less = subst (λ y. R x.0 y.0 ≡ Less) (get_or_from_slice_get es n l l at) (below_at o x.0 es n l (slice_get_within es n l at) (both_true (below_all R x.0 es) _ s).0) in
+      subst (λ y. R y.0 k ≡ Less) (get_or_from_slice_get (x ∷ es) 0 e x is) (o.trans x.0 l.0 k first less)
+  front_below (x ∷ es) (suc n) l s at less (suc j) e le is = front_below es n l (both_true (below_all R x.0 es) _ s).1 at less j e (omega (arith, le)) is
+
+  -- a key above the last one stands behind all
+  pub behind_last : (es : List (K × ℕ)) (l : K × ℕ) → T (is_sorted R es) → slice_get es (length es - 1) ≡ Some l → R l.0 k ≡ Less → IsGap R es k (length es)
+  behind_last es l s at less = record {
+    within = omega arith;
+    before = λ j e lt is. o.antisymm k e.0 ∙ ap ordering_reverse (front_below es (length es - 1) l s at less j e (omega (arith, lt)) is);
+    above = λ e is. absurd (omega (arith, slice_get_within es (length es) e is));
   }

@@ -47,7 +47,10 @@ pub fn place_of<K: EntryKey>(entries: &[(K, u64)], key: &K) -> Result<usize, usi
     requires { T (is_sorted K.cmp entries.now) }
     ensures { IsPlace K.cmp entries.now key.now result }
 {
-    entries.binary_search_by(|entry| entry.0.order(key))
+    match entries.last() {
+        Some(last) if last.0.order(key).is_lt() => Err(entries.len()),
+        _ => entries.binary_search_by(|entry| entry.0.order(key)),
+    }
 }
 
 /// The number at the place of a key, and 0 where it has no entry.
