@@ -1,5 +1,5 @@
 -- A job that is admitted has nothing yet: the map stays, and so does each total.
-use Rattle.std.proofs.Common.{◌≡◌, ℕ, zero, suc, ◌+◌, ◌*◌, ◌<◌, ◌≤◌, true, false, cond, nat_eq, nat_lt, List, [], ◌∷◌, ◌++◌, length, get_or, set, map, refl, sym, ◌∙◌, ap, subst, arith, add-one, inl, inr, length-set}
+use Rattle.std.proofs.Common.{◌≡◌, ℕ, zero, suc, ◌*◌, ◌<◌, ◌≤◌, true, false, cond, nat_eq, nat_lt, List, [], ◌∷◌, length, get_or, set, map, refl, sym, ◌∙◌, ap, subst, arith, inl, inr}
 use Rattle.std.specs.Prelude.{replicate, ◌&&◌, IsTrue, is_some, Some, None, Option, slice_get}
 use Rattle.std.specs.Option.{option_map, unwrap_or}
 use Rattle.std.specs.List.{AllByRecursion}
@@ -28,7 +28,7 @@ use Rattle.fuxi_terms.proofs.Spots.{Each}
 use Rattle.fuxi_terms.proofs.Alls.{all_more}
 use Rattle.fuxi_terms.proofs.Lookups.{none_is}
 use Rattle.grant_table.proofs.Entries.{entries_each}
-use Rattle.fuxi_terms.proofs.IndexedLists.{one_set, repeated_last}
+use Rattle.fuxi_terms.proofs.IndexedLists.{one_set}
 
 -- ---- the jobs
 -- the job is found, and the others as before
@@ -112,12 +112,7 @@ zeros zero m = refl
 zeros (suc n) zero = refl
 zeros (suc n) (suc m) = zeros n m
 
-pub small_number : (j : JobRecord) → IsTrue (is_valid_job 8 j) → j.number < 256
-small_number j v =
-    let t : nat_lt j.number 256 ≡ true = (both_true (nat_lt j.number 256) _ v).0 in
-    grind (arith, nat_tests, t)
-
-module _ (c : ClusterRecord) (jobs : List JobRecord) (cells : List (List Cell)) (loads spent : List (List ℕ)) (j : JobRecord) (fresh : List Cell) (l : IsLevel c jobs cells loads spent) (new : is_known (as_known jobs) j.number ≡ false) (valid : IsTrue (is_valid_job 8 j)) (is_fresh : fresh ≡ fresh_cells j.group (length c.machines) j.units) where
+module _ (c : ClusterRecord) (jobs : List JobRecord) (cells : List (List Cell)) (loads spent : List (List ℕ)) (j : JobRecord) (fresh : List Cell) (l : IsLevel c jobs cells loads spent) (new : is_known (as_known jobs) j.number ≡ false) (valid : IsTrue (is_valid_job 8 j)) (is_fresh : fresh ≡ fresh_cells j.group (length c.machines) j.units) (place : j.number < length cells) where
   abbrev a : ℕ
   a = j.number
 
@@ -135,9 +130,6 @@ module _ (c : ClusterRecord) (jobs : List JobRecord) (cells : List (List Cell)) 
 
   none_before : unit_count (as_known jobs) a ≡ 0
   none_before = ap (λ (o : Option KnownJob). length (unwrap_or (option_map (λ (k : KnownJob). k.job.units) o) [])) unknown
-
-  place : a < length cells
-  place = let p = l.places in let s = small_number j valid in omega (arith, p, s)
 
   -- the cells of the job
   fresh_at : (u : ℕ) → u < length j.units → get_or fresh u no_cell ≡ fresh_cell j.group (length c.machines) (get_or j.units u no_unit)
@@ -230,7 +222,6 @@ module _ (c : ClusterRecord) (jobs : List JobRecord) (cells : List (List Cell)) 
   admitted_level = record {
     valid = l.valid;
     in_order = jobs_admitted j jobs valid new l.in_order;
-    places = length-set cells a fresh ∙ l.places;
     units = λ b. ap length (one_set cells a b fresh [] place) ∙ elim (nat_eq a b) as (λ t. nat_eq a b ≡ t → length (cond t fresh (get_or cells b [])) ≡ cond t (length j.units) (unit_count (as_known jobs) b)) [
       | true ↦ λ _. ap length is_fresh ∙ length-map j.units (fresh_cell j.group (length c.machines))
       | false ↦ λ _. l.units b

@@ -2,6 +2,7 @@ pub mod NestedLemmas
 pub mod Cells
 pub mod Totals
 pub mod SetTotals
+pub mod SameUnits
 pub mod Entries
 pub mod Bounds
 pub mod AdmittedTotals

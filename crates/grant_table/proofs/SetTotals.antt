@@ -227,7 +227,6 @@ module _ (c : ClusterRecord) (jobs : List JobRecord) (cells : List (List Cell)) 
   set_level = record {
     valid = l.valid;
     in_order = l.in_order;
-    places = length-set cells a _ ∙ l.places;
     units = λ b. lengths_set cells a u b new job_in ∙ l.units b;
     unit = unit_then;
     machines = length-set loads m q ∙ l.machines;

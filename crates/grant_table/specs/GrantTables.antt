@@ -1,5 +1,5 @@
 -- What a table of grants stands for, and what its running totals are tied to.
-use Rattle.std.specs.Prelude.{◌≡◌, ℕ, ◌+◌, ◌-◌, ◌<◌, ◌≤◌, IsTrue, false, cond, nat_lt, ⊤, List, [], ◌∷◌, length, map, replicate}
+use Rattle.std.specs.Prelude.{◌≡◌, ℕ, ◌+◌, ◌-◌, ◌<◌, ◌≤◌, IsTrue, false, cond, nat_lt, ⊤, List, [], ◌∷◌, length, map, replicate, take, drop}
 use Rattle.std.specs.Global.{Vec}
 use Rattle.std.specs.List.{sum_by, AllByRecursion}
 use Rattle.std.proofs.Common.{get_or, set}
@@ -59,8 +59,9 @@ pub record Cell : Type 0 where
   pub counts : List ℕ
   pub racks : List ℕ
 
+-- the racks stand first in its list of numbers, and behind them the machines
 abbrev pub cell_of : Holding → Cell
-cell_of h = record { size = h.size.q; group = h.group.0; most = h.most; held = h.held; counts = h.counts.items; racks = h.racks.items }
+cell_of h = record { size = h.size.q; group = h.group.0; most = h.most; held = h.held; counts = drop 64 h.numbers.items; racks = take 64 h.numbers.items }
 
 abbrev pub cells_in : Vec Holding → List Cell
 cells_in v = map cell_of v.items
@@ -121,7 +122,6 @@ pub record IsUnit (c : ClusterRecord) (jobs : List JobRecord) (es : Table) (a u 
 pub record IsLevel (c : ClusterRecord) (jobs : List JobRecord) (cells : List (List Cell)) (loads spent : List (List ℕ)) : Type 0 where
   pub valid : IsTrue (is_valid_cluster c)
   pub in_order : AreJobs jobs
-  pub places : length cells ≡ 256
   pub units : (a : ℕ) → length (get_or cells a []) ≡ unit_count (as_known jobs) a
   pub unit : (a u : ℕ) → u < unit_count (as_known jobs) a → IsUnit c jobs (entries_in cells) a u (cell_at cells a u)
   pub machines : length loads ≡ length c.machines

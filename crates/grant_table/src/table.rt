@@ -5,11 +5,11 @@ ghost use Rattle.std.proofs.Common.{get_or};
 ghost use Rattle.fuxi_terms.specs.Cluster.{JobRecord};
 ghost use Rattle.grant_table.specs.GrantTables.{with_admitted};
 
-use crate::holding::{Holding, empty_slots, fresh_units, holding_at, lower_at, raise_at, units_at};
+use crate::holding::{Holding, fresh_units, holding_at, lower_at, raise_at, reach, units_at};
 use crate::steps::Steps;
 use cluster_desc::Cluster;
 use fuxi_terms::OutOfMemory;
-use fuxi_terms::limits::MOST_GROUPS;
+use fuxi_terms::limits::{MOST_GROUPS, MOST_JOBS};
 use res_vector::{Res, minus, zero};
 use schedule_unit::{AppNo, GroupNo, Job, MachineNo, RackNo, UnitNo};
 use std::alloc::Global;
@@ -69,7 +69,7 @@ impl GrantTable {
         Ok(GrantTable {
             cluster: cluster.copy(alloc)?,
             jobs: Vec::new(alloc),
-            slots: empty_slots(alloc)?,
+            slots: Vec::with_capacity(alloc, MOST_JOBS as usize)?,
             used: Vec::from_elem(alloc, zero(), machines)?,
             usages: Vec::from_elem(alloc, zero(), MOST_GROUPS)?,
         })
@@ -85,6 +85,7 @@ impl GrantTable {
         let app = job.app();
         let units = fresh_units(alloc, job, self.cluster.machines() as usize)?;
         let copy = job.copy(alloc)?;
+        reach(alloc, &mut self.slots, app)?;
         insert_job(&mut self.jobs, copy)?;
         self.slots[app.0 as usize] = units;
         Ok(())
@@ -193,7 +194,7 @@ impl GrantTable {
         ensures { result ≡ held_on self.now.entries app.0 unit.0 machine.0 }
     {
         let holding = holding_at(&self.slots, app.0 as usize, unit.0 as usize);
-        holding.counts[machine.0 as usize]
+        holding.count(machine.0 as usize)
     }
 
     /// How many grants the unit has on each machine, by its number.
@@ -202,7 +203,7 @@ impl GrantTable {
         ensures long { length result.now ≡ length self.now.cluster.machines }
         ensures is { (m : ℕ) → get_or result.now m 0 ≡ held_on self.now.entries app.0 unit.0 m }
     {
-        &holding_at(&self.slots, app.0 as usize, unit.0 as usize).counts
+        holding_at(&self.slots, app.0 as usize, unit.0 as usize).counts()
     }
 
     /// How many grants the unit has on the machines of the rack, which need not be there.
@@ -212,7 +213,7 @@ impl GrantTable {
         ensures { result ≡ held_in self.now.cluster self.now.entries app.0 unit.0 rack.0 }
     {
         let holding = holding_at(&self.slots, app.0 as usize, unit.0 as usize);
-        holding.racks[rack.0 as usize]
+        holding.in_rack(rack.0 as usize)
     }
 
     /// What is free on the machine. Each call is a step.
