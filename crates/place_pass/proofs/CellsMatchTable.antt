@@ -4,7 +4,7 @@ use Rattle.std.specs.Prelude.{Option, Some, None, slice_get, IsTrue, ◌&&◌}
 use Rattle.std.specs.Option.{option_map, unwrap_or}
 use Rattle.std.specs.List.{list_all}
 use Rattle.std.proofs.lemmas.Bool.Decides.{nat_tests}
-use Rattle.std.proofs.lemmas.List.{length-map, get_or-map, get_or_default}
+use Rattle.std.proofs.lemmas.List.{length-map, get_or-map}
 use Rattle.fuxi_terms.specs.Cluster.{ClusterRecord, MachineRecord, GroupRecord, is_vector_of, JobRecord, UnitRecord, is_valid_cluster, is_valid_machine, is_valid_group, is_between, limit_at, has_at, no_group, no_machine, rack_of}
 use Rattle.fuxi_terms.specs.Vectors.{at_place}
 use Rattle.std.proofs.Math.ListN.{get_or-eq_default}
@@ -14,7 +14,7 @@ use Rattle.cluster_desc.specs.declared.cluster.Machine.{Machine}
 use Rattle.cluster_desc.specs.Records.{machine_of as padded_machine}
 use Rattle.fuxi_terms.specs.Jobs.{KnownJob, job_of, units_of, unit_of, unit_count, group_of, most_of, no_unit}
 use Rattle.grant_table.specs.GrantTables.{TableRecord, as_known, AreJobs}
-use Rattle.place_pass.specs.Cells.{Cell, cell_of, cell_at, no_cell, job_in, job_at, AreWishes, IsWish}
+use Rattle.place_pass.specs.Cells.{Cell, cell_of, cell_at, no_cell, job_in, job_at, AreWishes}
 use Rattle.place_pass.specs.Placers.{AreLevel}
 use Rattle.fuxi_terms.proofs.Booleans.{both_true, number_is}
 use Rattle.fuxi_terms.proofs.Lookups.{by_record}
@@ -110,17 +110,6 @@ has_past c v m i le =
     by (x ∷ xs) zero h = vector_past c.resources x.has i le (both_true (nat_lt x.rack 64) _ (both_true (is_valid_machine c.resources x) (list_all (is_valid_machine c.resources) xs) h).0).1
     by (x ∷ xs) (suc m) h = by xs m (both_true (is_valid_machine c.resources x) (list_all (is_valid_machine c.resources) xs) h).1
 
--- ---- what is read of a unit
-module _ (w : Wish) (x : Cell) (cell : cell_of w ≡ x) (i y : ℕ) where
-  pub near_read : i < length w.near.items → y ≡ get_or w.near.items i y → y ≡ get_or x.near i 0
-  near_read lt e = e ∙ get_or_default w.near.items i y 0 lt ∙ ap (λ (z : Cell). get_or z.near i 0) cell
-
-  pub rack_read : i < length w.racks.items → y ≡ get_or w.racks.items i y → y ≡ get_or x.racks i 0
-  rack_read lt e = e ∙ get_or_default w.racks.items i y 0 lt ∙ ap (λ (z : Cell). get_or z.racks i 0) cell
-
-  pub avoided_read : i < length w.avoided.items → y ≡ get_or w.avoided.items i y → y ≡ get_or x.avoided i 0
-  avoided_read lt e = e ∙ get_or_default w.avoided.items i y 0 lt ∙ ap (λ (z : Cell). get_or z.avoided i 0) cell
-
 pub rack_is : (ms : List MachineRecord) (m : ℕ) (x : Machine) → option_map padded_machine (slice_get ms m) ≡ Some x → x.rack.0 ≡ (unwrap_or (slice_get ms m) no_machine).rack
 rack_is ms m x e = by (slice_get ms m) e
   where
@@ -135,10 +124,3 @@ rack_few k c same v m lt x e =
     let small = rack_small c v m lt in
     let rack = ap (λ (y : ClusterRecord). rack_of y m) same in
     omega (arith, is, small, rack)
-
--- what is read at a machine of an admitted unit
-pub avoided_at : (c : ClusterRecord) (first x : Cell) (w : Wish) → IsWish c first x → cell_of w ≡ x → (m y : ℕ) → m < length c.machines → y ≡ get_or w.avoided.items m y → y ≡ get_or x.avoided m 0
-avoided_at c first x w is cell m y lt e =
-    let long = is.avoided in
-    let same = ap (λ (z : Cell). length z.avoided) cell in
-    avoided_read w x cell m y (omega (arith, long, same, lt)) e

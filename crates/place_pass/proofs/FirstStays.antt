@@ -20,7 +20,6 @@ use Rattle.fuxi_terms.proofs.Sums.{sum_set}
 use Rattle.written_roles.specs.Masters.{level_of, out_of}
 use Rattle.written_roles.specs.Placing.{Board, Ranked, ranked_in, candidates_in, may_grow_in, is_allowed_in, accepts_in, has_room_in, placeable_in, least, first_of, first_in}
 use Rattle.place_pass.specs.Bounds.{comes_before}
-use Rattle.place_pass.proofs.BoundsLemmas.{NoEarlier}
 use Rattle.place_pass.proofs.BoundsAfterChange.{granted_later}
 use Rattle.place_pass.proofs.FirstByTurn.{all_in, by_place, in_candidates, less_first, less_rest, placed_all}
 use Rattle.place_pass.proofs.FirstOfLine.{first_is}

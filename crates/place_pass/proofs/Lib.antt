@@ -1,4 +1,5 @@
 pub mod Places
+pub mod AskedParts
 pub mod CellsLemmas
 pub mod ValidJobs
 pub mod CellsMatchTable

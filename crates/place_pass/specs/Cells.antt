@@ -1,5 +1,5 @@
 -- What the program keeps of one unit, and what is asked at a key.
-use Rattle.std.specs.Prelude.{◌≡◌, ℕ, ◌+◌, ◌*◌, ◌<◌, ◌≤◌, Bool, cond, nat_eq, nat_lt, ◌&&◌, ◌||◌, List, [], ◌∷◌, length, map, replicate, Option, Some, None, true}
+use Rattle.std.specs.Prelude.{◌≡◌, ℕ, ◌+◌, ◌*◌, ◌<◌, ◌≤◌, Bool, cond, nat_eq, nat_lt, ◌&&◌, ◌||◌, List, [], ◌∷◌, length, map, take, drop, replicate, Option, Some, None, true}
 use Rattle.std.specs.Global.{Vec}
 use Rattle.std.specs.List.{list_any}
 use Rattle.std.proofs.Common.{get_or}
@@ -23,8 +23,18 @@ pub record Cell : Type 0 where
   pub racks : List ℕ
   pub avoided : List ℕ
 
+-- the parts of the list that is kept of a unit: what is wanted by machine, what by rack, and the machines that are avoided
+abbrev pub near_in : ℕ → List ℕ → List ℕ
+near_in machines asked = take machines asked
+
+abbrev pub racks_in : ℕ → List ℕ → List ℕ
+racks_in machines asked = take 64 (drop machines asked)
+
+abbrev pub avoided_in : ℕ → List ℕ → List ℕ
+avoided_in machines asked = drop (machines + 64) asked
+
 abbrev pub cell_of : Wish → Cell
-cell_of w = record { unit = record { priority = w.priority; size = w.size.q; most = w.most }; group = w.group.0; want = w.want; near = w.near.items; racks = w.racks.items; avoided = w.avoided.items }
+cell_of w = record { unit = record { priority = w.priority; size = w.size.q; most = w.most }; group = w.group.0; want = w.want; near = near_in w.machines w.asked.items; racks = racks_in w.machines w.asked.items; avoided = avoided_in w.machines w.asked.items }
 
 abbrev pub cells_in : Vec Wish → List Cell
 cells_in v = map cell_of v.items

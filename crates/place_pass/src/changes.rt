@@ -22,7 +22,7 @@ ghost use Rattle.place_pass.specs.DemandScopes.{AsksSameBut, IsWritten, IsWritte
 use crate::line::Line;
 use crate::marks::{Marks, lower_all};
 use crate::standing::entry_for;
-use crate::wishes::{Wish, Wishes, number_at, put_number, rack_number};
+use crate::wishes::{RACKS, Wish, Wishes, number_at, put_number, rack_number};
 use cluster_desc::Cluster;
 use fuxi_terms::Key;
 use fuxi_terms::limits::MOST_RACKS;
@@ -48,10 +48,10 @@ fn write_want(wish: &mut Wish, demand: &Demand, key: &Key) -> bool
 }
 
 // Writes a number by machine, where there is a place for it. True where it is 0 and something stood there.
-fn write_number(numbers: &mut Vec<u32>, demand: &Demand, key: &Key) -> bool
+fn write_number(numbers: &mut [u32], demand: &Demand, key: &Key) -> bool
     requires { key.now.what < 5 }
-    ensures numbers { numbers.new.items ≡ set numbers.old.items key.now.number (count key_cmp demand.now.entries key.now) }
-    ensures gone { result ≡ is_gone (get_or numbers.old.items key.now.number 0) (count key_cmp demand.now.entries key.now) }
+    ensures numbers { numbers.new ≡ set numbers.old key.now.number (count key_cmp demand.now.entries key.now) }
+    ensures gone { result ≡ is_gone (get_or numbers.old key.now.number 0) (count key_cmp demand.now.entries key.now) }
 {
     if key.number as usize >= numbers.len() {
         return false;
@@ -61,9 +61,9 @@ fn write_number(numbers: &mut Vec<u32>, demand: &Demand, key: &Key) -> bool
 }
 
 // Writes a number by rack, where there is a place for it: nothing where no machine stands there.
-fn write_rack(racks: &mut Vec<u32>, cluster: &Cluster, demand: &Demand, key: &Key)
+fn write_rack(racks: &mut [u32], cluster: &Cluster, demand: &Demand, key: &Key)
     requires { key.now.what < 5 }
-    ensures { racks.new.items ≡ set racks.old.items key.now.number (cond (has_rack cluster.now key.now.number) (count key_cmp demand.now.entries key.now) 0) }
+    ensures { racks.new ≡ set racks.old key.now.number (cond (has_rack cluster.now key.now.number) (count key_cmp demand.now.entries key.now) 0) }
 {
     if key.number as usize >= racks.len() {
         return;
@@ -74,26 +74,29 @@ fn write_rack(racks: &mut Vec<u32>, cluster: &Cluster, demand: &Demand, key: &Ke
 }
 
 // Writes what a demand asks of a unit at one key. True where it wants more, or no longer avoids a machine.
+#[tactic(auto, using(crate::proofs::AskedParts::parts_fit))]
 fn write_key(wish: &mut Wish, cluster: &Cluster, demand: &Demand, key: &Key) -> bool
-    requires near { length wish.old.near.items ≡ length cluster.now.machines }
-    requires racks { length wish.old.racks.items ≡ 64 }
-    requires avoided { length wish.old.avoided.items ≡ length cluster.now.machines }
+    requires near { length (cell_of wish.old).near ≡ length cluster.now.machines }
+    requires racks { length (cell_of wish.old).racks ≡ 64 }
+    requires avoided { length (cell_of wish.old).avoided ≡ length cluster.now.machines }
     ensures cell { IsWritten cluster.now demand.now.entries key.now (cell_of wish.old) (cell_of wish.new) }
     ensures more { result ≡ is_more_at key.now (asks_at (cell_of wish.old) key.now) (asked_by cluster.now demand.now.entries key.now) }
 {
     if key.what == WANT {
         return write_want(wish, demand, key);
     }
+    let from = wish.machines as usize;
+    let behind = from + RACKS;
     if key.what == NEAR {
-        write_number(&mut wish.near, demand, key);
+        write_number(&mut wish.asked[0..from], demand, key);
         return false;
     }
     if key.what == RACK {
-        write_rack(&mut wish.racks, cluster, demand, key);
+        write_rack(&mut wish.asked[from..behind], cluster, demand, key);
         return false;
     }
     if key.what == AVOID {
-        return write_number(&mut wish.avoided, demand, key);
+        return write_number(&mut wish.asked[behind..], demand, key);
     }
     false
 }

@@ -33,29 +33,29 @@ impl Wishes {
 
 // Whether a demand asks of a unit what is asked of it already.
 fn asks_the_same(wish: &Wish, unit: u8, cluster: &Cluster, demand: &Demand) -> bool
-    requires near { length wish.now.near.items ≡ length cluster.now.machines }
-    requires racks { length wish.now.racks.items ≡ 64 }
-    requires avoided { length wish.now.avoided.items ≡ length cluster.now.machines }
+    requires near { length (cell_of wish.now).near ≡ length cluster.now.machines }
+    requires racks { length (cell_of wish.now).racks ≡ 64 }
+    requires avoided { length (cell_of wish.now).avoided ≡ length cluster.now.machines }
     ensures { result ≡ true → taken cluster.now demand.now.entries unit (cell_of wish.now) ≡ cell_of wish.now }
 {
     let machines = cluster.machines();
     if number_at(demand, WANT, unit, 0) != wish.want {
         return false;
     }
-    if !has_numbers(&wish.near, machines, demand, NEAR, unit) {
+    if !has_numbers(wish.near(), machines, demand, NEAR, unit) {
         return false;
     }
-    if !has_racks(&wish.racks, cluster, demand, unit) {
+    if !has_racks(wish.racks(), cluster, demand, unit) {
         return false;
     }
-    has_numbers(&wish.avoided, machines, demand, AVOID, unit)
+    has_numbers(wish.avoided(), machines, demand, AVOID, unit)
 }
 
 // Whether these are what a demand has of a kind at each machine. The walk goes from one that it names to the next.
-fn has_numbers(numbers: &Vec<u32>, machines: u32, demand: &Demand, what: u8, unit: u8) -> bool
+fn has_numbers(numbers: &[u32], machines: u32, demand: &Demand, what: u8, unit: u8) -> bool
     requires what { what < 5 }
-    requires long { length numbers.now.items ≡ machines }
-    ensures { result ≡ true → numbers_at demand.now.entries what unit machines ≡ numbers.now.items }
+    requires long { length numbers.now ≡ machines }
+    ensures { result ≡ true → numbers_at demand.now.entries what unit machines ≡ numbers.now }
 {
     let mut passed = 0;
     let mut next = 0;
@@ -75,9 +75,9 @@ fn has_numbers(numbers: &Vec<u32>, machines: u32, demand: &Demand, what: u8, uni
 }
 
 // Whether these are what a demand has at each rack in which a machine stands. The walk goes from one that it names to the next.
-fn has_racks(racks: &Vec<u32>, cluster: &Cluster, demand: &Demand, unit: u8) -> bool
-    requires { length racks.now.items ≡ 64 }
-    ensures { result ≡ true → racks_at cluster.now demand.now.entries unit ≡ racks.now.items }
+fn has_racks(racks: &[u32], cluster: &Cluster, demand: &Demand, unit: u8) -> bool
+    requires { length racks.now ≡ 64 }
+    ensures { result ≡ true → racks_at cluster.now demand.now.entries unit ≡ racks.now }
 {
     let mut passed = 0;
     let mut next = 0;

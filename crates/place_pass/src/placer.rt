@@ -136,7 +136,7 @@ impl Placer {
         let _cluster = self.wishes.cluster();
         let units = self.units + job.units() as usize;
         self.line.reserve(units)?;
-        let machines = self.wishes.cluster().machines() as usize;
+        let machines = self.wishes.cluster().machines();
         let fresh = fresh_units(alloc, job, machines)?;
         self.tree.admit(alloc, job)?;
         limit_all(&mut self.marks, self.turns);

@@ -145,7 +145,7 @@ impl Wishes {
             return false;
         }
         let wish = self.wish(app, unit);
-        if wish.avoided[machine.0 as usize] > 0 {
+        if wish.avoided()[machine.0 as usize] > 0 {
             return false;
         }
         if table.held_on(app, unit, machine) >= wish.most {

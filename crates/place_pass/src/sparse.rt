@@ -7,9 +7,9 @@ ghost use Rattle.std.proofs.Common.{get_or};
 const BLOCK: u32 = 32;
 
 /// Whether 0 stands from one place on to another. No branch in the loop: the places are compared several at once.
-pub(crate) fn is_clear(numbers: &Vec<u32>, from: u32, to: u32) -> bool
-    requires { to ≤ length numbers.now.items }
-    ensures { result ≡ true → (k : ℕ) → from ≤ k → k < to → get_or numbers.now.items k 0 ≡ 0 }
+pub(crate) fn is_clear(numbers: &[u32], from: u32, to: u32) -> bool
+    requires { to ≤ length numbers.now }
+    ensures { result ≡ true → (k : ℕ) → from ≤ k → k < to → get_or numbers.now k 0 ≡ 0 }
 {
     let mut clear = true;
     for place in from..to {
@@ -19,12 +19,12 @@ pub(crate) fn is_clear(numbers: &Vec<u32>, from: u32, to: u32) -> bool
 }
 
 // A place behind blocks in which 0 stands everywhere.
-fn behind_clear(numbers: &Vec<u32>, from: u32, end: u32) -> u32
+fn behind_clear(numbers: &[u32], from: u32, end: u32) -> u32
     requires order { from ≤ end }
-    requires inside { end ≤ length numbers.now.items }
+    requires inside { end ≤ length numbers.now }
     ensures least { from ≤ result }
     ensures inside { result ≤ end }
-    ensures passed { (k : ℕ) → from ≤ k → k < result → get_or numbers.now.items k 0 ≡ 0 }
+    ensures passed { (k : ℕ) → from ≤ k → k < result → get_or numbers.now k 0 ≡ 0 }
 {
     let mut at = from;
     while end - at >= BLOCK {
@@ -37,9 +37,9 @@ fn behind_clear(numbers: &Vec<u32>, from: u32, end: u32) -> u32
 }
 
 /// Whether 0 stands everywhere before a place. It is left at the first block that has another number.
-pub(crate) fn is_clear_to(numbers: &Vec<u32>, end: u32) -> bool
-    requires { end ≤ length numbers.now.items }
-    ensures { result ≡ true → (k : ℕ) → k < end → get_or numbers.now.items k 0 ≡ 0 }
+pub(crate) fn is_clear_to(numbers: &[u32], end: u32) -> bool
+    requires { end ≤ length numbers.now }
+    ensures { result ≡ true → (k : ℕ) → k < end → get_or numbers.now k 0 ≡ 0 }
 {
     let at = behind_clear(numbers, 0, end);
     if end - at >= BLOCK {
@@ -49,13 +49,13 @@ pub(crate) fn is_clear_to(numbers: &Vec<u32>, end: u32) -> bool
 }
 
 /// The first place from one on at which a number is not 0, and the end where there is none.
-pub(crate) fn first_some(numbers: &Vec<u32>, from: u32, end: u32) -> u32
+pub(crate) fn first_some(numbers: &[u32], from: u32, end: u32) -> u32
     requires order { from ≤ end }
-    requires inside { end ≤ length numbers.now.items }
+    requires inside { end ≤ length numbers.now }
     ensures least { from ≤ result }
     ensures inside { result ≤ end }
-    ensures some { result < end → 0 < get_or numbers.now.items result 0 }
-    ensures passed { (k : ℕ) → from ≤ k → k < result → get_or numbers.now.items k 0 ≡ 0 }
+    ensures some { result < end → 0 < get_or numbers.now result 0 }
+    ensures passed { (k : ℕ) → from ≤ k → k < result → get_or numbers.now k 0 ≡ 0 }
 {
     for place in behind_clear(numbers, from, end)..end {
         if numbers[place as usize] > 0 {

@@ -1,6 +1,6 @@
 //! What the admitted units are and what is asked of them, by job number and unit, and the machines that are open.
 
-ghost use Rattle.std.specs.Prelude.{◌≡◌, ℕ, ◌+◌, ◌<◌, ◌≤◌, ◌&&◌, ◌||◌, Bool, T, true, false, nat_eq, nat_lt, min, cond, [], length, set, replicate, IfOk};
+ghost use Rattle.std.specs.Prelude.{◌≡◌, ℕ, ◌+◌, ◌<◌, ◌≤◌, ◌++◌, ◌&&◌, ◌||◌, Bool, T, true, false, nat_eq, nat_lt, min, cond, [], length, set, replicate, IfOk};
 ghost use Rattle.std.specs.FinMap.Entries.{is_sorted};
 ghost use Rattle.std.proofs.Common.{get_or};
 ghost use Rattle.std.specs.List.{list_any};
@@ -30,6 +30,9 @@ use std::marker::Model;
 /// A place for each unit that may be admitted.
 pub(crate) const UNIT_PLACES: usize = MOST_JOBS as usize * MOST_UNITS;
 
+/// A place for each rack.
+pub(crate) const RACKS: usize = MOST_RACKS as usize;
+
 /// A unit, and what is asked of it.
 #[derive(Drop)]
 pub(crate) struct Wish {
@@ -39,12 +42,39 @@ pub(crate) struct Wish {
     pub(crate) most: u32,
     pub(crate) group: GroupNo,
     pub(crate) want: u32,
-    /// By machine.
-    pub(crate) near: Vec<u32>,
-    /// By rack.
-    pub(crate) racks: Vec<u32>,
+    /// How many machines the cluster has.
+    pub(crate) machines: u32,
+    /// How many grants are wanted by machine, then by rack, and then by machine 1 where it is avoided.
+    pub(crate) asked: Vec<u32>,
+}
+
+impl Wish {
+    /// How many grants are wanted, by machine.
+    pub(crate) fn near(&self) -> &[u32]
+        requires { length (cell_of self.now).racks ≡ 64 }
+        ensures { result.now ≡ (cell_of self.now).near }
+    {
+        &self.asked[..self.machines as usize]
+    }
+
+    /// How many grants are wanted, by rack.
+    #[tactic(auto, using(crate::proofs::AskedParts::parts_fit))]
+    pub(crate) fn racks(&self) -> &[u32]
+        requires { length (cell_of self.now).racks ≡ 64 }
+        ensures { result.now ≡ (cell_of self.now).racks }
+    {
+        let from = self.machines as usize;
+        &self.asked[from..from + RACKS]
+    }
+
     /// By machine, 1 where it is avoided.
-    pub(crate) avoided: Vec<u32>,
+    #[tactic(auto, using(crate::proofs::AskedParts::parts_fit))]
+    pub(crate) fn avoided(&self) -> &[u32]
+        requires { length (cell_of self.now).racks ≡ 64 }
+        ensures { result.now ≡ (cell_of self.now).avoided }
+    {
+        &self.asked[self.machines as usize + RACKS..]
+    }
 }
 
 /// The admitted units with what is asked of them, and the open machines.
@@ -175,7 +205,7 @@ impl Wishes {
         requires { unit.0 < length (get_or self.now.cells app.0 []) }
         ensures { result ≡ nat_lt 0 (asks_in self.now.cells app.0 (avoid_key unit.0 machine.0)) }
     {
-        let avoided = &self.wish(app, unit).avoided;
+        let avoided = self.wish(app, unit).avoided();
         let number = machine.0 as usize;
         if number >= avoided.len() {
             return false;
@@ -193,7 +223,7 @@ impl Wishes {
         if !self.is_open(machine) {
             return false;
         }
-        self.wish(app, unit).avoided[machine.0 as usize] == 0
+        self.wish(app, unit).avoided()[machine.0 as usize] == 0
     }
 
     // Whether a unit of the job that may differ avoids a machine.
@@ -205,7 +235,7 @@ impl Wishes {
             if !may_differ(differing, number) {
                 continue;
             }
-            if !is_clear(&self.wish(app, UnitNo(number)).avoided, 0, machines) {
+            if !is_clear(self.wish(app, UnitNo(number)).avoided(), 0, machines) {
                 return true;
             }
         }
@@ -231,7 +261,7 @@ impl Wishes {
                 continue;
             }
             let wish = self.wish(app, UnitNo(number));
-            if wish.avoided[machine.0 as usize] == 0 {
+            if wish.avoided()[machine.0 as usize] == 0 {
                 continue;
             }
             if number_at(demand, AVOID, number, machine.0) == 0 {
@@ -262,6 +292,7 @@ impl Wishes {
     pub(crate) fn wish(&self, app: AppNo, unit: UnitNo) -> &Wish
         requires { unit.0 < length (get_or self.now.cells app.0 []) }
         ensures cell { cell_of result.now ≡ cell_at self.now.cells app.0 unit.0 }
+        ensures racks { length (cell_of result.now).racks ≡ 64 }
         ensures sound { AreWishes self.now.cluster self.now.cells self.now.opened }
     {
         wish_at(&self.slots, app.0 as usize, unit.0 as usize)
@@ -311,33 +342,39 @@ fn wish_at(slots: &[Vec<Wish>], app: usize, unit: usize) -> &Wish
     &units[unit]
 }
 
+// Nothing is wanted on a machine or in a rack, and no machine is avoided. It is filled in two steps, since from 2048 bytes on memset
+// takes another path, which counts an instruction a byte.
+fn nothing_asked(alloc: Global, machines: u32) -> Result<Vec<u32>, OutOfMemory>
+    ensures { IfOk result (λ asked. asked.items ≡ replicate (machines + 64) 0 ++ replicate machines 0) }
+{
+    let wanted = machines as usize + RACKS;
+    let all = wanted + machines as usize;
+    let mut asked = Vec::with_capacity(alloc, all)?;
+    asked.resize(wanted, 0)?;
+    asked.resize(all, 0)?;
+    Ok(asked)
+}
+
 /// The units of a new job, of which nothing is asked.
-pub(crate) fn fresh_units(
-    alloc: Global,
-    job: &Job,
-    machines: usize,
-) -> Result<Vec<Wish>, OutOfMemory>
+pub(crate) fn fresh_units(alloc: Global, job: &Job, machines: u32) -> Result<Vec<Wish>, OutOfMemory>
     ensures { IfOk result (λ units. cells_in units ≡ fresh_cells job.now.group machines job.now.units) }
 {
     let group = job.group();
-    let mut units = Vec::new(alloc);
+    let mut units = Vec::with_capacity(alloc, job.units() as usize)?;
     for number in 0..job.units() {
         let unit = job.unit(UnitNo(number));
         let priority = unit.priority;
         let size = unit.size;
         let most = unit.most;
-        let near = Vec::from_elem(alloc, 0, machines)?;
-        let racks = Vec::from_elem(alloc, 0, MOST_RACKS as usize)?;
-        let avoided = Vec::from_elem(alloc, 0, machines)?;
+        let asked = nothing_asked(alloc, machines)?;
         units.push(Wish {
             priority,
             size,
             most,
             group,
             want: 0,
-            near,
-            racks,
-            avoided,
+            machines,
+            asked,
         })?;
     }
     Ok(units)
@@ -382,10 +419,11 @@ fn take_over(
 }
 
 // A unit takes its part of the demand. True where it wants more, or no longer avoids a machine.
+#[tactic(auto, using(crate::proofs::AskedParts::parts_fit))]
 fn take_one(wish: &mut Wish, unit: u8, cluster: &Cluster, demand: &Demand) -> bool
-    requires near { length wish.old.near.items ≡ length cluster.now.machines }
-    requires racks { length wish.old.racks.items ≡ 64 }
-    requires avoided { length wish.old.avoided.items ≡ length cluster.now.machines }
+    requires near { length (cell_of wish.old).near ≡ length cluster.now.machines }
+    requires racks { length (cell_of wish.old).racks ≡ 64 }
+    requires avoided { length (cell_of wish.old).avoided ≡ length cluster.now.machines }
     ensures cell { cell_of wish.new ≡ taken cluster.now demand.now.entries unit (cell_of wish.old) }
     ensures more { result ≡ asks_more cluster.now demand.now.entries unit (cell_of wish.old) }
 {
@@ -393,9 +431,11 @@ fn take_one(wish: &mut Wish, unit: u8, cluster: &Cluster, demand: &Demand) -> bo
     let want = number_at(demand, WANT, unit, 0);
     let rises = wish.want < want;
     wish.want = want;
-    read_numbers(&mut wish.near, machines, demand, NEAR, unit);
-    read_racks(&mut wish.racks, cluster, demand, unit);
-    let lifted = read_numbers(&mut wish.avoided, machines, demand, AVOID, unit);
+    let from = wish.machines as usize;
+    let behind = from + RACKS;
+    read_numbers(&mut wish.asked[0..from], machines, demand, NEAR, unit);
+    read_racks(&mut wish.asked[from..behind], cluster, demand, unit);
+    let lifted = read_numbers(&mut wish.asked[behind..], machines, demand, AVOID, unit);
     rises || lifted
 }
 
@@ -493,10 +533,10 @@ pub(crate) fn next_asked(demand: &Demand, passed: &mut usize, sought: &Key, end:
 }
 
 // Writes a number. True where it is 0 and something stood there.
-pub(crate) fn put_number(numbers: &mut Vec<u32>, place: u32, number: u32) -> bool
-    requires { place < length numbers.old.items }
-    ensures numbers { numbers.new.items ≡ set numbers.old.items place number }
-    ensures gone { result ≡ is_gone (get_or numbers.old.items place 0) number }
+pub(crate) fn put_number(numbers: &mut [u32], place: u32, number: u32) -> bool
+    requires { place < length numbers.old }
+    ensures numbers { numbers.new ≡ set numbers.old place number }
+    ensures gone { result ≡ is_gone (get_or numbers.old place 0) number }
 {
     let gone = is_gone(numbers[place as usize], number);
     numbers[place as usize] = number;
@@ -504,14 +544,14 @@ pub(crate) fn put_number(numbers: &mut Vec<u32>, place: u32, number: u32) -> boo
 }
 
 // Writes 0 from one place on to another. True where something stood there.
-fn clear_numbers(numbers: &mut Vec<u32>, from: u32, to: u32) -> bool
+fn clear_numbers(numbers: &mut [u32], from: u32, to: u32) -> bool
     requires order { from ≤ to }
-    requires inside { to ≤ length numbers.old.items }
-    ensures long { length numbers.new.items ≡ length numbers.old.items }
-    ensures zero { (k : ℕ) → from ≤ k → k < to → get_or numbers.new.items k 0 ≡ 0 }
-    ensures before { (k : ℕ) → k < from → get_or numbers.new.items k 0 ≡ get_or numbers.old.items k 0 }
-    ensures behind { (k : ℕ) → to ≤ k → get_or numbers.new.items k 0 ≡ get_or numbers.old.items k 0 }
-    ensures gone { (f : ℕ → Bool) → ((k : ℕ) → from ≤ k → k < to → f k ≡ is_gone (get_or numbers.old.items k 0) 0) → list_any f (below to) ≡ (list_any f (below from) || result) }
+    requires inside { to ≤ length numbers.old }
+    ensures long { length numbers.new ≡ length numbers.old }
+    ensures zero { (k : ℕ) → from ≤ k → k < to → get_or numbers.new k 0 ≡ 0 }
+    ensures before { (k : ℕ) → k < from → get_or numbers.new k 0 ≡ get_or numbers.old k 0 }
+    ensures behind { (k : ℕ) → to ≤ k → get_or numbers.new k 0 ≡ get_or numbers.old k 0 }
+    ensures gone { (f : ℕ → Bool) → ((k : ℕ) → from ≤ k → k < to → f k ≡ is_gone (get_or numbers.old k 0) 0) → list_any f (below to) ≡ (list_any f (below from) || result) }
 {
     if is_clear(numbers, from, to) {
         return false;
@@ -525,11 +565,11 @@ fn clear_numbers(numbers: &mut Vec<u32>, from: u32, to: u32) -> bool
 }
 
 // What a demand has of a kind at each machine, from one that it names to the next. True where it has nothing at one that had a number.
-fn read_numbers(numbers: &mut Vec<u32>, machines: u32, demand: &Demand, what: u8, unit: u8) -> bool
+fn read_numbers(numbers: &mut [u32], machines: u32, demand: &Demand, what: u8, unit: u8) -> bool
     requires what { what < 5 }
-    requires long { length numbers.old.items ≡ machines }
-    ensures numbers { numbers.new.items ≡ numbers_at demand.now.entries what unit machines }
-    ensures gone { result ≡ any_gone demand.now.entries what unit numbers.old.items machines }
+    requires long { length numbers.old ≡ machines }
+    ensures numbers { numbers.new ≡ numbers_at demand.now.entries what unit machines }
+    ensures gone { result ≡ any_gone demand.now.entries what unit numbers.old machines }
 {
     let mut passed = 0;
     let mut gone = false;
@@ -565,9 +605,9 @@ pub(crate) fn rack_number(cluster: &Cluster, rack: u32, wanted: u32) -> u32
 }
 
 // What a demand has at each rack in which a machine stands, from one that it names to the next.
-fn read_racks(racks: &mut Vec<u32>, cluster: &Cluster, demand: &Demand, unit: u8)
-    requires { length racks.old.items ≡ 64 }
-    ensures { racks.new.items ≡ racks_at cluster.now demand.now.entries unit }
+fn read_racks(racks: &mut [u32], cluster: &Cluster, demand: &Demand, unit: u8)
+    requires { length racks.old ≡ 64 }
+    ensures { racks.new ≡ racks_at cluster.now demand.now.entries unit }
 {
     let mut passed = 0;
     let mut next = 0;

@@ -1,6 +1,6 @@
 use Rattle.std.proofs.Common.{◌≡◌, ◌+◌, ◌<◌, ℕ, length, get_or, sym, ◌∙◌, subst, arith, inl, inr, rules}
 use Rattle.std.proofs.lemmas.Bool.{cases_eq, cases_lt}
-use Rattle.std.proofs.lemmas.List.{ext_get_or, get_or_read}
+use Rattle.std.proofs.lemmas.List.{ext_get_or}
 use Rattle.fuxi_terms.specs.Keys.{key_cmp}
 use Rattle.fuxi_terms.specs.Counts.{count}
 use Rattle.fuxi_terms.specs.TallyKeys.{key}
@@ -18,14 +18,13 @@ loop-next-preserved c =
     let what = c.args.what in
     let unit = c.args.unit in
     let f : ℕ → ℕ = λ m. count key_cmp es (key what unit m) in
-    let numbers = c.args.numbers.now.items in
+    let numbers = c.args.numbers.now in
     let i = c.loop-next.invariant in
     let n = c.loop-next.next in
     let m = c.next_asked-machine.result.0 in
     let x = c.next_asked-machine.ensures in
     let wide : m < length numbers = let inside = x.inside in let all = c.requires.long in omega (arith, inside, all) in
-    let same : c.index.result.now ≡ c.next_asked-machine.result.1 = search rules in
-    let here : get_or numbers m 0 ≡ c.next_asked-machine.result.1 = sym (get_or_read numbers m c.index.result.now wide c.index.ensures 0) ∙ same in
+    let here : get_or numbers m 0 ≡ c.next_asked-machine.result.1 = search rules in
     record {
       within = let inside = x.inside in omega (arith, inside);
       done = λ k lt. elim (cases_lt k n) as (λ _. get_or numbers k 0 ≡ f k) [
@@ -44,5 +43,5 @@ returns c e =
     let long = c.requires.long in
     let all = counted_long f c.args.machines in
     let end = c.loop-next-test.false in
-    ext_get_or 0 (numbers_at c.args.demand.now.entries c.args.what c.args.unit c.args.machines) c.args.numbers.now.items (omega (arith, long, all))
+    ext_get_or 0 (numbers_at c.args.demand.now.entries c.args.what c.args.unit c.args.machines) c.args.numbers.now (omega (arith, long, all))
     (λ i lt. let l : i < c.args.machines = omega (arith, lt, all) in counted_at f c.args.machines i l ∙ sym (c.loop-next.invariant.done i (omega (arith, l, end))))

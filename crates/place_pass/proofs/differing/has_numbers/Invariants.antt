@@ -8,7 +8,7 @@ use Rattle.place_pass.proofs.differing.has_numbers.Given as goal
 abbrev pub invariant-loop-next : goal.invariant-loop-next
 invariant-loop-next l = record {
   within : l.next ≤ l.machines;
-  done : (k : ℕ) → k < l.next → get_or l.numbers.items k 0 ≡ count key_cmp l.demand.entries (key l.what l.unit k);
+  done : (k : ℕ) → k < l.next → get_or l.numbers k 0 ≡ count key_cmp l.demand.entries (key l.what l.unit k);
   past : IsPast l.demand.entries l.passed (key l.what l.unit l.next);
 }
 

@@ -1,6 +1,6 @@
 use Rattle.std.proofs.Common.{◌≡◌, ◌+◌, ◌<◌, ℕ, cond, length, get_or, sym, ◌∙◌, ap, subst, arith, inl, inr, rules}
 use Rattle.std.proofs.lemmas.Bool.{cases_eq, cases_lt}
-use Rattle.std.proofs.lemmas.List.{ext_get_or, get_or_read}
+use Rattle.std.proofs.lemmas.List.{ext_get_or}
 use Rattle.fuxi_terms.specs.Cluster.{has_rack}
 use Rattle.fuxi_terms.specs.Keys.{key_cmp}
 use Rattle.fuxi_terms.specs.Counts.{count}
@@ -18,14 +18,13 @@ pub loop-next-preserved : goal.loop-next-preserved
 loop-next-preserved c =
     let es = c.args.demand.now.entries in
     let f : ℕ → ℕ = λ r. cond (has_rack c.args.cluster.now r) (count key_cmp es (rack_key c.args.unit r)) 0 in
-    let racks = c.args.racks.now.items in
+    let racks = c.args.racks.now in
     let i = c.loop-next.invariant in
     let n = c.loop-next.next in
     let m = c.next_asked-rack.result.0 in
     let x = c.next_asked-rack.ensures in
     let wide : m < length racks = let inside = x.inside in let all = c.requires in omega (arith, inside, all) in
-    let same : c.index.result.now ≡ c.rack_number-number.result = search rules in
-    let here : get_or racks m 0 ≡ c.rack_number-number.result = sym (get_or_read racks m c.index.result.now wide c.index.ensures 0) ∙ same in
+    let here : get_or racks m 0 ≡ c.rack_number-number.result = search rules in
     record {
       within = let inside = x.inside in omega (arith, inside);
       done = λ k lt. elim (cases_lt k n) as (λ _. get_or racks k 0 ≡ f k) [
@@ -44,5 +43,5 @@ returns c e =
     let n = c.requires in
     let all = counted_long f 64 in
     let end = c.loop-next-test.false in
-    ext_get_or 0 (racks_at c.args.cluster.now c.args.demand.now.entries c.args.unit) c.args.racks.now.items (omega (arith, n, all))
+    ext_get_or 0 (racks_at c.args.cluster.now c.args.demand.now.entries c.args.unit) c.args.racks.now (omega (arith, n, all))
     (λ i lt. let l : i < 64 = omega (arith, lt, all) in counted_at f 64 i l ∙ sym (c.loop-next.invariant.done i (omega (arith, l, end))))

@@ -9,7 +9,7 @@ use Rattle.place_pass.proofs.differing.has_racks.Given as goal
 abbrev pub invariant-loop-next : goal.invariant-loop-next
 invariant-loop-next l = record {
   within : l.next ≤ 64;
-  done : (k : ℕ) → k < l.next → get_or l.racks.items k 0 ≡ cond (has_rack l.cluster k) (count key_cmp l.demand.entries (rack_key l.unit k)) 0;
+  done : (k : ℕ) → k < l.next → get_or l.racks k 0 ≡ cond (has_rack l.cluster k) (count key_cmp l.demand.entries (rack_key l.unit k)) 0;
   past : IsPast l.demand.entries l.passed (rack_key l.unit l.next);
 }
 

@@ -5,7 +5,7 @@ abbrev pub invariant-loop-at : goal.invariant-loop-at
 invariant-loop-at l = record {
   least : l.from ≤ l.at;
   inside : l.at ≤ l.end;
-  passed : (k : ℕ) → l.from ≤ k → k < l.at → get_or l.numbers.items k 0 ≡ 0;
+  passed : (k : ℕ) → l.from ≤ k → k < l.at → get_or l.numbers k 0 ≡ 0;
 }
 
 abbrev pub decreases-loop-at : goal.decreases-loop-at

@@ -5,5 +5,5 @@ abbrev pub invariant-loop-place : goal.invariant-loop-place
 invariant-loop-place l = record {
   least : l.from ≤ l.place;
   inside : l.place ≤ l.end;
-  passed : (k : ℕ) → l.from ≤ k → k < l.place → get_or l.numbers.items k 0 ≡ 0;
+  passed : (k : ℕ) → l.from ≤ k → k < l.place → get_or l.numbers k 0 ≡ 0;
 }

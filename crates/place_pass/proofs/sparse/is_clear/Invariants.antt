@@ -4,5 +4,5 @@ use Rattle.place_pass.proofs.sparse.is_clear.Given as goal
 abbrev pub invariant-loop-place : goal.invariant-loop-place
 invariant-loop-place l = record {
   from : l.from ≤ l.place;
-  clear : l.clear ≡ true → (k : ℕ) → l.from ≤ k → k < l.place → get_or l.numbers.items k 0 ≡ 0;
+  clear : l.clear ≡ true → (k : ℕ) → l.from ≤ k → k < l.place → get_or l.numbers k 0 ≡ 0;
 }

@@ -48,7 +48,7 @@ loop-number-preserved c =
           | inl less ↦ i.near m less
           | inr ge ↦
               let asked = asks_in w.cells e.app.0 (near_key e.unit.0 m) in
-              let none : asked ≡ 0 = ap (λ (x : Cell). get_or x.near m 0) (sym c.wish-wish.ensures.cell) ∙ next.passed m (omega (arith, ge, d)) lt in
+              let none : asked ≡ 0 = ap (λ (x : Cell). get_or x.near m 0) (sym c.wish-wish.ensures.cell) ∙ ap (λ ns. get_or ns m 0) (sym c.near-in-loop-number.ensures) ∙ next.passed m (omega (arith, ge, d)) lt in
               let stands = i.ahead m (omega (arith, ge)) ∙ c.requires.nowhere m (omega (arith, lt, last, end, k)) in
               stands_unasked asked (held_on es e.app.0 e.unit.0 m) (get_or (unit_at t e.app.0 e.unit.0).stands m false) (λ j. nat_lt 0 (none j) || stands j)
         ]

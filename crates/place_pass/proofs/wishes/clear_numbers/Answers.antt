@@ -51,9 +51,9 @@ pub loop-place-preserved : goal.loop-place-preserved
 loop-place-preserved c =
     let i = c.loop-place.invariant in
     let n = c.loop-place.place in
-    let old = c.args.numbers.now.items in
-    let items = c.loop-place.numbers.items in
-    let new = c.put_number-one.new.numbers.items in
+    let old = c.args.numbers.now in
+    let items = c.loop-place.numbers in
+    let new = c.put_number-one.new.numbers in
     let is = c.put_number-one.ensures.numbers in
     let from = i.from in
     let test = c.loop-place-test.true in

@@ -9,9 +9,9 @@ abbrev pub invariant-loop-place : goal.invariant-loop-place
 invariant-loop-place l = record {
   from : l.from ≤ l.place;
   to : l.place ≤ l.to;
-  long : length l.numbers.items ≡ length l.initial.numbers.items;
-  zero : (k : ℕ) → l.from ≤ k → k < l.place → get_or l.numbers.items k 0 ≡ 0;
-  before : (k : ℕ) → k < l.from → get_or l.numbers.items k 0 ≡ get_or l.initial.numbers.items k 0;
-  behind : (k : ℕ) → l.place ≤ k → get_or l.numbers.items k 0 ≡ get_or l.initial.numbers.items k 0;
-  gone : (f : ℕ → Bool) → ((k : ℕ) → l.from ≤ k → k < l.place → f k ≡ is_gone (get_or l.initial.numbers.items k 0) 0) → list_any f (below l.place) ≡ (list_any f (below l.from) || l.gone);
+  long : length l.numbers ≡ length l.initial.numbers;
+  zero : (k : ℕ) → l.from ≤ k → k < l.place → get_or l.numbers k 0 ≡ 0;
+  before : (k : ℕ) → k < l.from → get_or l.numbers k 0 ≡ get_or l.initial.numbers k 0;
+  behind : (k : ℕ) → l.place ≤ k → get_or l.numbers k 0 ≡ get_or l.initial.numbers k 0;
+  gone : (f : ℕ → Bool) → ((k : ℕ) → l.from ≤ k → k < l.place → f k ≡ is_gone (get_or l.initial.numbers k 0) 0) → list_any f (below l.place) ≡ (list_any f (below l.from) || l.gone);
 }

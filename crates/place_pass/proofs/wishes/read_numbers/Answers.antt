@@ -36,7 +36,7 @@ loop-next-preserved c =
     let what = c.args.what in
     let unit = c.args.unit in
     let f : ℕ → ℕ = λ m. count key_cmp es (key what unit m) in
-    let old = c.args.numbers.now.items in
+    let old = c.args.numbers.now in
     let was : ℕ → Bool = λ m. is_gone (get_or old m 0) (count key_cmp es (key what unit m)) in
     let i = c.loop-next.invariant in
     let n = c.loop-next.next in
@@ -44,9 +44,9 @@ loop-next-preserved c =
     let number = c.next_asked-machine.result.1 in
     let x = c.next_asked-machine.ensures in
     let least = x.least in
-    let items = c.loop-next.numbers.items in
-    let a = c.clear_numbers-before.new.numbers.items in
-    let b = c.put_number-here.new.numbers.items in
+    let items = c.loop-next.numbers in
+    let a = c.clear_numbers-before.new.numbers in
+    let b = c.put_number-here.new.numbers in
     let clear = c.clear_numbers-before.ensures in
     let is = c.put_number-here.ensures.numbers in
     let wide : m < length a = let inside = x.inside in let all = c.requires.long in let long = i.long in let kept = clear.long in omega (arith, inside, all, long, kept) in
@@ -78,7 +78,7 @@ returns-clause-numbers c =
     let long = c.requires.long in
     let all = counted_long f c.args.machines in
     let end = c.loop-next-test.false in
-    ext_get_or 0 c.loop-next.numbers.items (numbers_at c.args.demand.now.entries c.args.what c.args.unit c.args.machines) (omega (arith, n, long, all))
+    ext_get_or 0 c.loop-next.numbers (numbers_at c.args.demand.now.entries c.args.what c.args.unit c.args.machines) (omega (arith, n, long, all))
     (λ i lt. let l : i < c.args.machines = omega (arith, lt, n, long) in c.loop-next.invariant.done i (omega (arith, l, end)) ∙ sym (counted_at f c.args.machines i l))
 
 pub returns-clause-gone : goal.returns-clause-gone
@@ -86,4 +86,4 @@ returns-clause-gone c =
     let within = c.loop-next.invariant.within in
     let end = c.loop-next-test.false in
     let same : c.loop-next.next ≡ c.args.machines = omega (arith, within, end) in
-    c.loop-next.invariant.gone ∙ ap (any_gone c.args.demand.now.entries c.args.what c.args.unit c.args.numbers.now.items) same
+    c.loop-next.invariant.gone ∙ ap (any_gone c.args.demand.now.entries c.args.what c.args.unit c.args.numbers.now) same

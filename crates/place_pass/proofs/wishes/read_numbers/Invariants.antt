@@ -9,10 +9,10 @@ use Rattle.place_pass.proofs.wishes.read_numbers.Given as goal
 abbrev pub invariant-loop-next : goal.invariant-loop-next
 invariant-loop-next l = record {
   within : l.next ≤ l.machines;
-  long : length l.numbers.items ≡ length l.initial.numbers.items;
-  left : (k : ℕ) → l.next ≤ k → get_or l.numbers.items k 0 ≡ get_or l.initial.numbers.items k 0;
-  gone : l.gone ≡ any_gone l.demand.entries l.what l.unit l.initial.numbers.items l.next;
-  done : (k : ℕ) → k < l.next → get_or l.numbers.items k 0 ≡ count key_cmp l.demand.entries (key l.what l.unit k);
+  long : length l.numbers ≡ length l.initial.numbers;
+  left : (k : ℕ) → l.next ≤ k → get_or l.numbers k 0 ≡ get_or l.initial.numbers k 0;
+  gone : l.gone ≡ any_gone l.demand.entries l.what l.unit l.initial.numbers l.next;
+  done : (k : ℕ) → k < l.next → get_or l.numbers k 0 ≡ count key_cmp l.demand.entries (key l.what l.unit k);
   past : IsPast l.demand.entries l.passed (key l.what l.unit l.next);
 }
 

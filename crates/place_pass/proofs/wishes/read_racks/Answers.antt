@@ -24,8 +24,8 @@ loop-next-preserved c =
     let number = c.rack_number-number.result in
     let x = c.next_asked-rack.ensures in
     let least = x.least in
-    let a = c.clear_numbers.new.numbers.items in
-    let b = c.put_number.new.numbers.items in
+    let a = c.clear_numbers.new.numbers in
+    let b = c.put_number.new.numbers in
     let clear = c.clear_numbers.ensures in
     let is = c.put_number.ensures.numbers in
     let wide : m < length a = let inside = x.inside in let long = i.long in let kept = clear.long in omega (arith, inside, long, kept) in
@@ -50,5 +50,5 @@ returns c =
     let n = c.loop-next.invariant.long in
     let all = counted_long f 64 in
     let end = c.loop-next-test.false in
-    ext_get_or 0 c.loop-next.racks.items (racks_at c.args.cluster.now c.args.demand.now.entries c.args.unit) (omega (arith, n, all))
+    ext_get_or 0 c.loop-next.racks (racks_at c.args.cluster.now c.args.demand.now.entries c.args.unit) (omega (arith, n, all))
     (λ i lt. let l : i < 64 = omega (arith, lt, n) in c.loop-next.invariant.done i (omega (arith, l, end)) ∙ sym (counted_at f 64 i l))

@@ -9,8 +9,8 @@ use Rattle.place_pass.proofs.wishes.read_racks.Given as goal
 abbrev pub invariant-loop-next : goal.invariant-loop-next
 invariant-loop-next l = record {
   within : l.next ≤ 64;
-  long : length l.racks.items ≡ 64;
-  done : (k : ℕ) → k < l.next → get_or l.racks.items k 0 ≡ cond (has_rack l.cluster k) (count key_cmp l.demand.entries (rack_key l.unit k)) 0;
+  long : length l.racks ≡ 64;
+  done : (k : ℕ) → k < l.next → get_or l.racks k 0 ≡ cond (has_rack l.cluster k) (count key_cmp l.demand.entries (rack_key l.unit k)) 0;
   past : IsPast l.demand.entries l.passed (rack_key l.unit l.next);
 }
 

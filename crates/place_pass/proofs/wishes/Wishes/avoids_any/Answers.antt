@@ -12,7 +12,8 @@ is_clear-requires c =
     let n = ap (λ (x : Cell). length x.avoided) c.wish.ensures.cell in
     let k = ap (λ (x : ClusterRecord). length x.machines) c.cluster.ensures.cluster in
     let m = c.machines-machines.ensures.number in
-    omega (arith, w, n, k, m)
+    let long = ap length c.avoided.ensures in
+    omega (arith, w, n, k, m, long)
 
 pub loop-number-preserved-then-not-may_differ : goal.loop-number-preserved-then-not-may_differ
 loop-number-preserved-then-not-may_differ c = record {
@@ -33,11 +34,12 @@ loop-number-preserved c = record {
         let long = ap (λ (x : Cell). length x.avoided) c.wish.ensures.cell in
         let k = ap (λ (x : ClusterRecord). length x.machines) c.cluster.ensures.cluster in
         let m = c.machines-machines.ensures.number in
-        let read : get_or c.wish.result.now.avoided.items n 0 ≡ 0 = elim (cases_lt n c.machines-machines.result) [
+        let same_long = ap length c.avoided.ensures in
+        let read : get_or c.avoided.result.now n 0 ≡ 0 = elim (cases_lt n c.machines-machines.result) [
           | inl l ↦ c.is_clear.ensures c.if-not-is_clear.false n (omega arith) l
-          | inr le ↦ get_or-eq_default c.wish.result.now.avoided.items 0 (omega (arith, le, w, long, k, m))
+          | inr le ↦ get_or-eq_default c.avoided.result.now 0 (omega (arith, le, w, long, k, m, same_long))
         ] in
-        subst (λ v. get_or (cell_at c.args.self.now.cells c.args.app.0 v).avoided n 0 ≡ 0) same (ap (λ (x : Cell). get_or x.avoided n 0) (sym c.wish.ensures.cell) ∙ read)
+        subst (λ v. get_or (cell_at c.args.self.now.cells c.args.app.0 v).avoided n 0 ≡ 0) same (ap (λ (x : Cell). get_or x.avoided n 0) (sym c.wish.ensures.cell) ∙ ap (λ xs. get_or xs n 0) (sym c.avoided.ensures) ∙ read)
   ];
 }
 

@@ -1,22 +1,11 @@
-use Rattle.std.proofs.Common.{nat_lt, length, get_or, sym, ◌∙◌, ap, arith}
+use Rattle.std.proofs.Common.{◌≡◌, nat_lt, get_or, sym, ◌∙◌, ap}
 use Rattle.fuxi_terms.specs.Tables.{held_in}
 use Rattle.place_pass.specs.Cells.{Cell, cell_at}
-use Rattle.place_pass.proofs.CellsMatchTable.{rack_read}
 use Rattle.place_pass.proofs.wishes.Wishes.is_unmet_in.Goals as goal
-
-pub index-requires : goal.index-requires
-index-requires c =
-    let w = (c.wish-wish.ensures.sound.unit c.args.app.0 c.args.unit.0 c.requires.here).racks in
-    let n = ap (λ (x : Cell). length x.racks) c.wish-wish.ensures.cell in
-    let v = c.wish-wish.result.now.racks in
-    let l = c.requires.rack in
-    omega (arith, w, n, l)
 
 pub returns : goal.returns
 returns c =
     let cell = cell_at c.args.self.now.cells c.args.app.0 c.args.unit.0 in
-    let w = (c.wish-wish.ensures.sound.unit c.args.app.0 c.args.unit.0 c.requires.here).racks in
-    let n = ap (λ (x : Cell). length x.racks) c.wish-wish.ensures.cell in
-    let l = c.requires.rack in
-    let read = rack_read c.wish-wish.result.now cell c.wish-wish.ensures.cell c.args.rack.0 c.index.result.now (omega (arith, w, n, l)) c.index.ensures in
+    let r = c.args.rack.0 in
+    let read : get_or c.racks.result.now r 0 ≡ get_or cell.racks r 0 = ap (λ ns. get_or ns r 0) (c.racks.ensures ∙ ap (λ (x : Cell). x.racks) c.wish-wish.ensures.cell) in
     (λ i. nat_lt (c.held_in_rack.ensures i) (read i)) ∙ (λ i. nat_lt (held_in (sym c.requires.cluster i) c.args.table.now.entries c.args.app.0 c.args.unit.0 c.args.rack.0) (get_or cell.racks c.args.rack.0 0))

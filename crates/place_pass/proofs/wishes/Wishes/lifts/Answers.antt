@@ -5,16 +5,7 @@ use Rattle.fuxi_terms.specs.Keys.{key_cmp}
 use Rattle.fuxi_terms.specs.TallyKeys.{avoid_key}
 use Rattle.place_pass.specs.Cells.{Cell, cell_at}
 use Rattle.place_pass.proofs.AskedTheSame.{still_same}
-use Rattle.place_pass.proofs.CellsMatchTable.{avoided_read}
 use Rattle.place_pass.proofs.wishes.Wishes.lifts.Goals as goal
-
-pub index-requires : goal.index-requires
-index-requires c =
-    let there : c.loop-number.number < length (get_or c.args.self.now.cells c.args.app.0 []) = let t = c.loop-number-test.true in let e = c.units-number-end.ensures.number in omega (arith, t, e) in
-    let w = (c.wish-wish.ensures.sound.unit c.args.app.0 c.loop-number.number there).avoided in
-    let n = ap (λ (x : Cell). length x.avoided) c.wish-wish.ensures.cell in
-    let l = c.requires.machine in
-    omega (arith, w, n, l)
 
 pub loop-number-preserved-then-not-may_differ : goal.loop-number-preserved-then-not-may_differ
 loop-number-preserved-then-not-may_differ c u lt some =
@@ -31,19 +22,15 @@ loop-number-preserved-then-not-may_differ c u lt some =
           (still_same c.args.self.now.cluster c.args.demand.now.entries c.loop-number.number c.args.machine.0 (cell_at cells a c.loop-number.number) c.requires.machine (c.requires.same c.loop-number.number there alike) was)
     ]
 
-pub loop-number-preserved-then-index-eq0 : goal.loop-number-preserved-then-index-eq0
-loop-number-preserved-then-index-eq0 c u lt some =
-    let there : c.loop-number.number < length (get_or c.args.self.now.cells c.args.app.0 []) = let t = c.loop-number-test.true in let e = c.units-number-end.ensures.number in omega (arith, t, e) in
-    let w = (c.wish-wish.ensures.sound.unit c.args.app.0 c.loop-number.number there).avoided in
-    let n = ap (λ (x : Cell). length x.avoided) c.wish-wish.ensures.cell in
-    let l = c.requires.machine in
-    let read = avoided_read c.wish-wish.result.now (cell_at c.args.self.now.cells c.args.app.0 c.loop-number.number) c.wish-wish.ensures.cell c.args.machine.0 c.index.result.now (omega (arith, w, n, l)) c.index.ensures in
+pub loop-number-preserved-then-avoided-machine-eq0 : goal.loop-number-preserved-then-avoided-machine-eq0
+loop-number-preserved-then-avoided-machine-eq0 c u lt some =
+    let read : get_or c.avoided.result.now c.args.machine.0 0 ≡ get_or (cell_at c.args.self.now.cells c.args.app.0 c.loop-number.number).avoided c.args.machine.0 0 = ap (λ ns. get_or ns c.args.machine.0 0) (c.avoided.ensures ∙ ap (λ (x : Cell). x.avoided) c.wish-wish.ensures.cell) in
     elim (cases_lt u c.loop-number.number) [
       | inl l ↦ c.loop-number.invariant u l some
       | inr ge ↦
           let same : c.loop-number.number ≡ u = omega (arith, lt, ge) in
           let r = read ∙ ap (λ z. get_or (cell_at c.args.self.now.cells c.args.app.0 z).avoided c.args.machine.0 0) same in
-          let z = c.if-index-eq0.true in
+          let z = c.if-avoided-machine-eq0.true in
           absurd (omega (arith, r, z, some))
     ]
 
@@ -61,11 +48,8 @@ loop-number-preserved c u lt some = elim (cases_lt u c.loop-number.number) [
 pub returns-then-number_at-eq0-clause-some : goal.returns-then-number_at-eq0-clause-some
 returns-then-number_at-eq0-clause-some c e =
     let there : c.loop-number.number < length (get_or c.args.self.now.cells c.args.app.0 []) = let t = c.loop-number-test.true in let e = c.units-number-end.ensures.number in omega (arith, t, e) in
-    let w = (c.wish-wish.ensures.sound.unit c.args.app.0 c.loop-number.number there).avoided in
-    let n = ap (λ (x : Cell). length x.avoided) c.wish-wish.ensures.cell in
-    let l = c.requires.machine in
-    let read = avoided_read c.wish-wish.result.now (cell_at c.args.self.now.cells c.args.app.0 c.loop-number.number) c.wish-wish.ensures.cell c.args.machine.0 c.index.result.now (omega (arith, w, n, l)) c.index.ensures in
-    let z = c.if-index-eq0.false in
+    let read : get_or c.avoided.result.now c.args.machine.0 0 ≡ get_or (cell_at c.args.self.now.cells c.args.app.0 c.loop-number.number).avoided c.args.machine.0 0 = ap (λ ns. get_or ns c.args.machine.0 0) (c.avoided.ensures ∙ ap (λ (x : Cell). x.avoided) c.wish-wish.ensures.cell) in
+    let z = c.if-avoided-machine-eq0.false in
     record { unit = c.loop-number.number; there = there; was = omega (arith, read, z); gone = sym c.number_at.ensures ∙ c.if-number_at-eq0.true }
 
 pub returns-clause-none : goal.returns-clause-none

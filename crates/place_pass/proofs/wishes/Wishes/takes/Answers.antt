@@ -1,15 +1,14 @@
-use Rattle.std.proofs.Common.{◌≡◌, Bool, true, false, not, nat_lt, length, get_or, refl, sym, ◌∙◌, ap, subst, arith}
+use Rattle.std.proofs.Common.{◌≡◌, Bool, true, false, not, nat_lt, get_or, refl, sym, ◌∙◌, ap, arith}
 use Rattle.std.specs.Prelude.{◌&&◌}
 use Rattle.std.proofs.lemmas.Bool.Decides.{nat_tests}
-use Rattle.fuxi_terms.specs.Cluster.{ClusterRecord}
 use Rattle.fuxi_terms.specs.Jobs.{size_at, most_of}
 use Rattle.fuxi_terms.proofs.Booleans.{and_false}
 use Rattle.written_roles.specs.Placing.{accepts_in, has_room_in}
 use Rattle.grant_table.specs.GrantTables.{as_known}
 use Rattle.fuxi_terms.specs.Tables.{held_on}
-use Rattle.place_pass.specs.Cells.{Cell, IsWish, cell_at}
+use Rattle.place_pass.specs.Cells.{Cell, cell_at}
 use Rattle.place_pass.specs.Placers.{board_over, is_open_to}
-use Rattle.place_pass.proofs.CellsMatchTable.{avoided_at, most_is}
+use Rattle.place_pass.proofs.CellsMatchTable.{most_is}
 use Rattle.place_pass.proofs.wishes.Wishes.takes.Goals as goal
 
 pub returns-then-not-has_room : goal.returns-then-not-has_room
@@ -17,21 +16,12 @@ returns-then-not-has_room c =
     let accepts = accepts_in (board_over c.args.self.now.cells c.args.self.now.opened c.args.table.now) c.args.table.now.entries c.args.app.0 c.args.unit.0 c.args.machine.0 in
     sym (ap (λ r. accepts && r) (sym (c.has_room.ensures c.args.machine.0 c.requires.free) ∙ c.if-not-has_room.true) ∙ and_false accepts)
 
-pub index-requires : goal.index-requires
-index-requires c =
-    let w = (c.wish-wish.ensures.sound.unit c.args.app.0 c.args.unit.0 c.requires.unit).avoided in
-    let n = ap (λ (x : Cell). length x.avoided) c.wish-wish.ensures.cell in
-    let m = ap (λ (x : ClusterRecord). length x.machines) c.requires.level.cluster_is in
-    let v = c.wish-wish.result.now.avoided in
-    let l = c.requires.machine in
-    omega (arith, w, n, m, l)
-
-pub returns-then-index-gt0 : goal.returns-then-index-gt0
-returns-then-index-gt0 c =
+pub returns-then-avoided-machine-gt0 : goal.returns-then-avoided-machine-gt0
+returns-then-avoided-machine-gt0 c =
     let t = c.args.table.now in
     let a = c.args.app.0 in let u = c.args.unit.0 in let m = c.args.machine.0 in
-    let read = avoided_at t.cluster (cell_at c.args.self.now.cells a 0) (cell_at c.args.self.now.cells a u) c.wish-wish.result.now (subst (λ (x : ClusterRecord). IsWish x (cell_at c.args.self.now.cells a 0) (cell_at c.args.self.now.cells a u)) c.requires.level.cluster_is (c.wish-wish.ensures.sound.unit a u c.requires.unit)) c.wish-wish.ensures.cell m c.index.result.now c.requires.machine c.index.ensures in
-    let some = c.if-index-gt0.true in
+    let read : get_or c.avoided.result.now m 0 ≡ get_or (cell_at c.args.self.now.cells a u).avoided m 0 = ap (λ ns. get_or ns m 0) (c.avoided.ensures ∙ ap (λ (x : Cell). x.avoided) c.wish-wish.ensures.cell) in
+    let some = c.if-avoided-machine-gt0.true in
     let test : nat_lt 0 (get_or (cell_at c.args.self.now.cells a u).avoided m 0) ≡ true = grind (arith, nat_tests, read, some) in
     none (get_or c.args.self.now.opened m false) (nat_lt 0 (get_or (cell_at c.args.self.now.cells a u).avoided m 0)) (nat_lt (held_on t.entries a u m) (most_of (as_known t.jobs) a u)) (has_room_in t.cluster (size_at (as_known t.jobs)) t.entries a u m) test
   where
@@ -59,8 +49,8 @@ pub returns : goal.returns
 returns c =
     let t = c.args.table.now in
     let a = c.args.app.0 in let u = c.args.unit.0 in let m = c.args.machine.0 in
-    let read = avoided_at t.cluster (cell_at c.args.self.now.cells a 0) (cell_at c.args.self.now.cells a u) c.wish-wish.result.now (subst (λ (x : ClusterRecord). IsWish x (cell_at c.args.self.now.cells a 0) (cell_at c.args.self.now.cells a u)) c.requires.level.cluster_is (c.wish-wish.ensures.sound.unit a u c.requires.unit)) c.wish-wish.ensures.cell m c.index.result.now c.requires.machine c.index.ensures in
-    let le = c.if-index-gt0.false in
+    let read : get_or c.avoided.result.now m 0 ≡ get_or (cell_at c.args.self.now.cells a u).avoided m 0 = ap (λ ns. get_or ns m 0) (c.avoided.ensures ∙ ap (λ (x : Cell). x.avoided) c.wish-wish.ensures.cell) in
+    let le = c.if-avoided-machine-gt0.false in
     let most = most_is c.args.self.now.cluster c.args.self.now.cells t c.requires.level c.wish-wish.result.now a u c.requires.unit c.wish-wish.ensures.cell in
     let h = c.held_on.ensures in
     let lt = c.if-held_on-wish.false in
