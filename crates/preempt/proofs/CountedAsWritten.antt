@@ -20,7 +20,7 @@ use Rattle.preempt.specs.declared.entry.GroupUse.{GroupUse}
 use Rattle.preempt.specs.declared.entry.Sums.{Sums}
 use Rattle.preempt.specs.Given.{board_of, no_group, written, IsEntry, IsNeed, IsGroup, AreGiven, recounted}
 use Rattle.preempt.specs.GrantNumbers.{needed_in_one, spared_in_one, total_in, part_in, needed_number, may_number}
-use Rattle.preempt.specs.GroupSums.{GroupParts, no_sums, taken_at, ArePartsOf}
+use Rattle.preempt.specs.GroupSums.{GroupParts, no_sums, taken_at, ArePlaces, ArePartsOf}
 use Rattle.preempt.proofs.Sums.{sum_many}
 
 pub greatest_same : (n : ℕ) (f g : ℕ → ℕ) → ((i : ℕ) → i < n → f i ≡ g i) → greatest_of n f ≡ greatest_of n g
@@ -219,6 +219,17 @@ total_first i k d set lt = at_drop_more (total_in i) set k d lt ∙ sum_by-cons 
 pub part_first : (g i k : ℕ) (d : Entry) (set : List Entry) → k < length set → part_in g i (drop k set) ≡ cond (nat_eq (get_or set k d).group g) (get_or set k d).count 0 * slice_index (get_or set k d).size i + part_in g i (drop (k + 1) set)
 part_first g i k d set lt = at_drop_more (part_in g i) set k d lt ∙ sum_by-cons (λ (e : Entry). cond (nat_eq e.group g) e.count 0 * slice_index e.size i) (get_or set k d) (drop (k + 1) set)
 
+-- sums by group, with an entry of which nothing is taken
+pub parts_same : (parts : GroupParts) (es : List Entry) (x : Entry) → x.count ≡ 0 → ArePartsOf parts es → ArePartsOf parts (es ++ x ∷ [])
+parts_same parts es x none h = record {
+  is = λ g i g_lt i_lt. let p = part_push g i es x in let z = nothing g i (nat_eq x.group g) in let o = h.is g i g_lt i_lt in omega (arith, p, z, o);
+  small = λ g i g_lt i_lt. let n = length-append es (x ∷ []) in let o = h.small g i g_lt i_lt in omega (arith, n, o);
+}
+  where
+    nothing : (g i : ℕ) (b : Bool) → cond b x.count 0 * slice_index x.size i ≡ 0
+    nothing g i true = ap (λ n. n * slice_index x.size i) none ∙ omega arith
+    nothing g i false = omega arith
+
 -- sums by group, with one entry more
 pub parts_more : (old new : GroupParts) (es : List Entry) (x : Entry) (part more : List ℕ) → ArePartsOf old es → x.group < 32
     → ((i : ℕ) → i < 8 → slice_index part i ≡ taken_at old x.group i)
@@ -263,11 +274,20 @@ parts_more old new es x part more h inside here is small put = record {
 pub zeros_at : (i : ℕ) → i < 8 → ◌≡◌ {A = ℕ} (get_or (replicate 8 0) i 0) 0
 zeros_at i lt = get_or-replicate 8 i 0 0 lt
 
-pub parts_start : (sums : List Sums) → ArePartsOf (record { begun = replicate 32 false; sums = sums }) []
-parts_start sums = record {
+pub parts_start : (places : List ℕ) (sums : List Sums) → ArePartsOf (record { begun = replicate 32 false; places = places; sums = sums }) []
+parts_start places sums = record {
   is = λ g i g_lt i_lt. at g i g_lt;
   small = λ g i g_lt i_lt. let z = at g i g_lt in omega (arith, z);
 }
   where
-    at : (g i : ℕ) → g < 32 → taken_at (record { begun = replicate 32 false; sums = sums }) g i ≡ 0
-    at g i g_lt = ap (λ b. cond b (slice_index (get_or sums g no_sums).q i) 0) (get_or-replicate 32 g false false g_lt)
+    at : (g i : ℕ) → g < 32 → taken_at (record { begun = replicate 32 false; places = places; sums = sums }) g i ≡ 0
+    at g i g_lt = ap (λ b. cond b (slice_index (get_or sums (get_or places g 0) no_sums).q i) 0) (get_or-replicate 32 g false false g_lt)
+
+-- no group has begun
+none_begun : (n g : ℕ) → get_or (replicate n false) g false ≡ false
+none_begun zero g = refl
+none_begun (suc n) zero = refl
+none_begun (suc n) (suc g) = none_begun n g
+
+pub places_start : (places : List ℕ) (sums : List Sums) → ArePlaces (replicate 32 false) places sums
+places_start places sums = record { inside = λ g t. let f = none_begun 32 g in cc }

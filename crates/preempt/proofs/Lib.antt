@@ -22,3 +22,4 @@ pub mod Promised
 pub mod VictimsTaken
 pub mod Served
 pub mod ListedLemmas
+pub mod Priorities

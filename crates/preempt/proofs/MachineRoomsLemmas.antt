@@ -1,9 +1,9 @@
 -- Beyond the room on a machine there are no victims.
-use Rattle.std.proofs.Common.{◌≡◌, ℕ, zero, suc, ◌+◌, ◌-◌, ◌<◌, ◌≤◌, Bool, true, false, nat_lt, min, max, List, [], ◌∷◌, ◌++◌, length, map, get_or, Some, None, refl, sym, ◌∙◌, ap, subst, arith, length-append}
+use Rattle.std.proofs.Common.{◌≡◌, ℕ, zero, suc, ◌+◌, ◌-◌, ◌<◌, ◌≤◌, Bool, true, false, nat_lt, min, max, List, [], ◌∷◌, ◌++◌, length, map, get_or, Some, None, refl, sym, ◌∙◌, ap, subst, arith}
 use Rattle.std.specs.Prelude.{◌&&◌, slice_get, slice_index}
 use Rattle.std.specs.List.{AllByRecursion, sum_by}
 use Rattle.std.proofs.lemmas.Bool.Decides.{nat_tests}
-use Rattle.fuxi_terms.specs.Cluster.{has_at, limit_at}
+use Rattle.fuxi_terms.specs.Cluster.{has_at, limit_at, is_narrow}
 use Rattle.fuxi_terms.specs.Jobs.{priority_of, group_of, size_at}
 use Rattle.fuxi_terms.specs.Keys.{Spot}
 use Rattle.fuxi_terms.specs.Lists.{below_each}
@@ -22,7 +22,7 @@ use Rattle.preempt.specs.declared.shelf.Shelf.{Shelf}
 use Rattle.preempt.specs.Given.{board_of, no_group, written, IsEntry, AreGroups, AreSpared}
 use Rattle.preempt.specs.GrantNumbers.{lower_in, spared_in}
 use Rattle.preempt.specs.GroupSums.{no_sums}
-use Rattle.preempt.specs.MachineRooms.{within_at, IsRoom, IsNarrower, AreRooms, IsFor, IsPlaceFor, AreRoomsFor}
+use Rattle.preempt.specs.MachineRooms.{within_at, IsRoom, IsNarrower, AreRooms, IsFor, IsPlaceOf, IsKind, IsKindOf, AreRoomsFor}
 use Rattle.preempt.specs.Shelves.{IsShelf, IsWanted}
 use Rattle.preempt.proofs.Sums.{not_fit, not_allowed}
 use Rattle.preempt.proofs.CountedAsWritten.{size_is}
@@ -40,7 +40,7 @@ pub record AreLeft (groups : List GroupUse) (shelf : Shelf) (spared : List Entry
   pub all_are : (i : ℕ) → i < 8 → slice_index all i ≡ slice_index lower i + spared_in n i spared
   pub used_are : (i : ℕ) → i < 8 → slice_index used i ≡ slice_index shelf.has i - slice_index shelf.free i
   pub room_are : (i : ℕ) → i < n.resources → slice_index room i ≡ min ((slice_index shelf.has i + slice_index all i) - slice_index used i)
-      ((slice_index (get_or groups n.group no_group).limit i + slice_index lower i) - slice_index (get_or groups n.group no_group).used i)
+      ((slice_index (get_or groups n.group no_group).limit.now i + slice_index lower i) - slice_index (get_or groups n.group no_group).used i)
 
 pub beyond_none : (t : TableRecord) (groups : List GroupUse) (m : ℕ) (shelf : Shelf) (spared_here : List Entry) (n : Need) (room : List ℕ) (a u i : ℕ)
     → AreGroups t groups → IsShelf t m shelf → AreSpared t m shelf.entries.now spared_here → AreLeft groups shelf spared_here n room → n.group < 32 → n.group ≡ group_of (as_known t.jobs) a → n.priority ≡ priority_of (as_known t.jobs) a u
@@ -139,13 +139,22 @@ module _ (t : TableRecord) (e : Entry) (h : IsEntry t e) (n : Need) (wanted : Is
       let x = get_or rooms m no_sums in
       beyond_room m x.q x.q (are.each m x (got (λ _. true) rooms m no_sums (omega (arith, lt, long)))) (record { each = λ i _. omega arith }) f
 
-  pub all_beyond : (rooms : Rooms) → AreRooms t rooms → AreRoomsFor t n rooms.each.items → below_each n.resources (within_at e.size rooms.widest) ≡ false
-      → (m : ℕ) → m < length t.cluster.machines → victims_in (board_of t) t.entries (spot e.app.0 e.unit.0 m) ≡ None
-  all_beyond rooms are by_machine f m lt =
-      let long = are.long in
-      let x = get_or rooms.each.items m no_sums in
-      let there = got (λ _. true) rooms.each.items m no_sums (omega (arith, lt, long)) in
-      beyond_room m x.q rooms.widest (by_machine.each m x there) (are.narrower m x there) f
+-- where the widest of the rooms of its kind is not wide enough for a unit
+pub kind_beyond : (t : TableRecord) (e : Entry) → IsEntry t e → (r : Rooms) → AreRooms t r → IsKindOf t e r → is_narrow t.cluster (size_at (as_known t.jobs) e.app.0 e.unit.0) ≡ true → (resources : ℕ) → resources ≡ t.cluster.resources
+    → below_each resources (within_at e.size r.widest) ≡ false → (m : ℕ) → m < length t.cluster.machines → victims_in (board_of t) t.entries (spot e.app.0 e.unit.0 m) ≡ None
+kind_beyond t e h r are kind narrow resources same f m lt =
+    let long = are.long in
+    let x = get_or r.each.items m no_sums in
+    let there = got (λ _. true) r.each.items m no_sums (omega (arith, lt, long)) in
+    let fails = some_fails resources (within_at e.size r.widest) f in
+    let i = fails.place in
+    let inside = fails.inside in
+    let i_lt : i < t.cluster.resources = omega (arith, inside, same) in
+    let test : nat_lt (slice_index r.widest i) (slice_index e.size i) ≡ true = not_false (nat_lt (slice_index r.widest i) (slice_index e.size i)) fails.is in
+    let less : slice_index r.widest i < slice_index e.size i = grind (arith, nat_tests, test) in
+    let le = (are.narrower m x there).each i i_lt in
+    let size = size_is t e h i in
+    (are.rooms m x there).beyond e.app.0 e.unit.0 i (kind.group ∙ h.group) (kind.priority ∙ h.priority) (kind.guaranteed narrow) i_lt (omega (arith, less, le, size))
 
 -- ---- the rooms of a kind
 pub rooms_for : (t : TableRecord) (n : Need) (r : Rooms) → AreRooms t r → IsFor n r → AreRoomsFor t n r.each.items
@@ -155,31 +164,26 @@ rooms_for t n r are is = record {
       subst (λ g. IsRoom t g n.priority n.guaranteed m x.q) is.group (subst (λ p. IsRoom t r.group p n.guaranteed m x.q) is.priority (subst (λ b. IsRoom t r.group r.priority b m x.q) is.guaranteed room));
 }
 
-pub place_is : (t : TableRecord) (n : Need) (kinds : List Rooms) (at : ℕ) (x : Rooms) → IsPlaceFor n kinds at → AllByRecursion (AreRooms t) kinds → x ≡ get_or kinds at x → AreRooms t x × IsFor n x
-place_is t n kinds at x is all same =
-    let there = got (λ _. true) kinds at x is.inside ∙ ap (λ y. Some y) (sym same) in
-    (all_at (AreRooms t) kinds at x all there, is.is x there)
+pub kind_for : (t : TableRecord) (e : Entry) → IsEntry t e → (n : Need) → IsWanted t e.app.0 e.unit.0 n → (r : Rooms) → IsKindOf t e r → IsFor n r
+kind_for t e h n w r k = record { group = k.group ∙ h.group ∙ sym w.group; priority = k.priority ∙ h.priority ∙ sym w.priority; guaranteed = k.guaranteed w.narrow ∙ sym w.guaranteed }
 
-pub place_found : (n : Need) (kinds : List Rooms) (at : ℕ) (x : Rooms) → at < length kinds → x ≡ get_or kinds at x → IsFor n x → IsPlaceFor n kinds at
-place_found n kinds at x lt same is = record {
+pub for_kind : (t : TableRecord) (e : Entry) → IsEntry t e → (n : Need) → IsWanted t e.app.0 e.unit.0 n → (r : Rooms) → IsFor n r → IsKindOf t e r
+for_kind t e h n w r k = record { group = k.group ∙ w.group ∙ sym h.group; priority = k.priority ∙ w.priority ∙ sym h.priority; guaranteed = λ narrow. k.guaranteed ∙ w.guaranteed }
+
+pub place_is : (t : TableRecord) (e : Entry) (guaranteed : Bool) → (is_narrow t.cluster (size_at (as_known t.jobs) e.app.0 e.unit.0) ≡ true → guaranteed ≡ is_guaranteed_in (board_of t) t.entries (spot e.app.0 e.unit.0 0))
+    → (kinds : List Rooms) (at : ℕ) (x : Rooms) → IsPlaceOf e.group e.priority guaranteed kinds at → AllByRecursion (AreRooms t) kinds → x ≡ get_or kinds at x → AreRooms t x × IsKindOf t e x
+place_is t e guaranteed b kinds at x is all same =
+    let there = got (λ _. true) kinds at x is.inside ∙ ap (λ y. Some y) (sym same) in
+    let kind = is.is x there in
+    (all_at (AreRooms t) kinds at x all there, record { group = kind.group; priority = kind.priority; guaranteed = λ narrow. kind.guaranteed ∙ b narrow })
+
+pub place_found : (g p : ℕ) (guaranteed : Bool) (kinds : List Rooms) (at : ℕ) (x : Rooms) → at < length kinds → x ≡ get_or kinds at x → IsKind g p guaranteed x → IsPlaceOf g p guaranteed kinds at
+place_found g p guaranteed kinds at x lt same is = record {
   inside = lt;
   is = λ r e.
       let there : Some x ≡ Some r = sym (got (λ _. true) kinds at x lt ∙ ap (λ y. Some y) (sym same)) ∙ e in
       let one : x ≡ r = cc in
-      subst (IsFor n) one is;
-}
-
-got_last : {A : Type 0} (xs : List A) (x : A) → slice_get (xs ++ x ∷ []) (length xs) ≡ Some x
-got_last [] x = refl
-got_last (y ∷ ys) x = got_last ys x
-
-pub place_pushed : (n : Need) (kinds : List Rooms) (x : Rooms) → IsFor n x → IsPlaceFor n (kinds ++ x ∷ []) (length kinds)
-place_pushed n kinds x is = record {
-  inside = let a = length-append kinds (x ∷ []) in omega (arith, a);
-  is = λ r e.
-      let there : Some x ≡ Some r = sym (got_last kinds x) ∙ e in
-      let one : x ≡ r = cc in
-      subst (IsFor n) one is;
+      subst (IsKind g p guaranteed) one is;
 }
 
 -- ---- one machine more

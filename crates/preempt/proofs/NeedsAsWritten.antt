@@ -38,16 +38,16 @@ module _ (t : TableRecord) (e : Entry) (h : IsEntry t e) where
 
   pub guaranteed_is : (resources : ℕ) (g : GroupUse) (allowed zeros : List ℕ) → resources ≡ t.cluster.resources → IsGroup t e.group g → t.cluster.resources ≤ 8 → is_narrow t.cluster (size_at (as_known t.jobs) e.app.0 e.unit.0) ≡ true
       → ((i : ℕ) → i < 8 → get_or zeros i 0 ≡ 0)
-      → ((i : ℕ) → i < 8 → slice_index allowed i ≡ slice_index g.used i + slice_index e.size i) → below_each resources (reach_in g.quota zeros allowed) ≡ is_guaranteed_in (board_of t) t.entries (spot e.app.0 e.unit.0 0)
+      → ((i : ℕ) → i < 8 → slice_index allowed i ≡ slice_index g.used i + slice_index e.size i) → below_each resources (reach_in g.quota.now zeros allowed) ≡ is_guaranteed_in (board_of t) t.entries (spot e.app.0 e.unit.0 0)
   guaranteed_is resources g allowed zeros is group few narrow none sum =
       let gr = group_of (as_known t.jobs) e.app.0 in
       let test : ℕ → Bool = λ i. not (nat_lt (quota_at t.cluster gr i) (usage_at (as_known t.jobs) gr i t.entries + size_at (as_known t.jobs) e.app.0 e.unit.0 i)) in
-      ap (λ n. below_each n (reach_in g.quota zeros allowed)) is
-      ∙ each_same t.cluster.resources (reach_in g.quota zeros allowed) test (λ i lt.
+      ap (λ n. below_each n (reach_in g.quota.now zeros allowed)) is
+      ∙ each_same t.cluster.resources (reach_in g.quota.now zeros allowed) test (λ i lt.
       let q = group.quota i lt ∙ ap (λ k. quota_at t.cluster k i) h.group in
       let w = group.used i lt ∙ ap (λ k. usage_at (as_known t.jobs) k i t.entries) h.group in
       let z = none i (omega (arith, lt, few)) in
-      let x : slice_index g.quota i + slice_index zeros i ≡ quota_at t.cluster gr i = omega (arith, q, z) in
+      let x : slice_index g.quota.now i + slice_index zeros i ≡ quota_at t.cluster gr i = omega (arith, q, z) in
       let s = size_is t e h i in
       let y : slice_index allowed i ≡ usage_at (as_known t.jobs) gr i t.entries + size_at (as_known t.jobs) e.app.0 e.unit.0 i = let m = sum i (omega (arith, lt, few)) in omega (arith, m, w, s) in
       λ k. not (nat_lt (x k) (y k)))

@@ -139,7 +139,7 @@ module _ (t : TableRecord) (groups : List GroupUse) (are : AreGroups t groups) (
       let u = g.used i lt ∙ ap (λ k. usage_at (as_known t.jobs) k i t.entries) h.group in
       let q = g.quota i lt ∙ ap (λ k. quota_at t.cluster k i) h.group in
       let s = size_is t e h i in
-      let z : quota_at t.cluster gr i + 0 + size_at (as_known t.jobs) e.app.0 e.unit.0 i ≡ slice_index x.quota i + slice_index e.size i = omega (arith, q, s) in
+      let z : quota_at t.cluster gr i + 0 + size_at (as_known t.jobs) e.app.0 e.unit.0 i ≡ slice_index x.quota.now i + slice_index e.size i = omega (arith, q, s) in
       λ k. not (nat_lt (sym u k) (z k)))
 
   closed_entry : (s : Spot) (n : Need) (lowest : List ℕ) (loose : Loose) (e : Entry) → IsLike t s n → may_take_some n lowest loose ≡ false → IsEntry t e → IsLow lowest e → IsLoose t.cluster.resources groups loose e

@@ -32,7 +32,7 @@ abbrev pub board_of : TableRecord → Board
 board_of t = board_at t (λ a u m. false)
 
 abbrev pub no_group : GroupUse
-no_group = record { quota = []; limit = []; used = [] }
+no_group = record { quota = record { ref_ptr = (0, 0); now = [] }; limit = record { ref_ptr = (0, 0); now = [] }; used = [] }
 
 abbrev pub written : ℕ → Entry → Spot × ℕ
 written m e = (spot e.app.0 e.unit.0 m, e.count)
@@ -61,8 +61,8 @@ pub record IsNeed (t : TableRecord) (s : Spot) (n : Need) : Type 0 where
   pub allowed : (i : ℕ) → i < t.cluster.resources → slice_index n.allowed i ≡ usage_at (as_known t.jobs) (group_of (as_known t.jobs) s.job) i t.entries + size_at (as_known t.jobs) s.job s.unit i
 
 pub record IsGroup (t : TableRecord) (g : ℕ) (x : GroupUse) : Type 0 where
-  pub quota : (i : ℕ) → i < t.cluster.resources → slice_index x.quota i ≡ quota_at t.cluster g i
-  pub limit : (i : ℕ) → i < t.cluster.resources → slice_index x.limit i ≡ limit_at t.cluster g i
+  pub quota : (i : ℕ) → i < t.cluster.resources → slice_index x.quota.now i ≡ quota_at t.cluster g i
+  pub limit : (i : ℕ) → i < t.cluster.resources → slice_index x.limit.now i ≡ limit_at t.cluster g i
   pub used : (i : ℕ) → i < t.cluster.resources → slice_index x.used i ≡ usage_at (as_known t.jobs) g i t.entries
 
 pub record AreGroups (t : TableRecord) (groups : List GroupUse) : Type 0 where

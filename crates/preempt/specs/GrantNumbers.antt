@@ -18,7 +18,7 @@ needed_number n all own e most = greatest_of n.resources (needed_in_one n all ow
 
 -- in one resource: how many grants of a size a group spares beside the part of it that a set takes
 abbrev pub spared_in_one : GroupUse → List ℕ → List ℕ → ℕ → ℕ → ℕ
-spared_in_one g part size most i = times_within (slice_index g.quota i + slice_index part i) (slice_index g.used i) (slice_index size i) most
+spared_in_one g part size most i = times_within (slice_index g.quota.now i + slice_index part i) (slice_index g.used i) (slice_index size i) most
 
 abbrev pub may_number : Need → GroupUse → List ℕ → Entry → ℕ
 may_number n g part e =

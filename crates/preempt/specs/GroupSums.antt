@@ -1,5 +1,5 @@
 -- Sums by group.
-use Rattle.std.specs.Prelude.{◌≡◌, ℕ, ◌*◌, ◌^◌, ◌<◌, ◌≤◌, Bool, cond, false, List, [], length, get_or, slice_index}
+use Rattle.std.specs.Prelude.{◌≡◌, ℕ, ◌*◌, ◌^◌, ◌<◌, ◌≤◌, Bool, cond, true, false, List, [], length, get_or, slice_index}
 use Rattle.preempt.specs.declared.entry.Entry.{Entry}
 use Rattle.preempt.specs.declared.entry.Sums.{Sums}
 use Rattle.preempt.specs.declared.victims.Taken.{Taken}
@@ -8,14 +8,19 @@ use Rattle.preempt.specs.GrantNumbers.{total_in, part_in}
 abbrev pub no_sums : Sums
 no_sums = record { q = [] }
 
--- by group whether it has begun, and sums
+-- by group whether it has begun and the place of its newest sums, and all sums that were put
 pub record GroupParts : Type 0 where
   pub begun : List Bool
+  pub places : List ℕ
   pub sums : List Sums
+
+-- the sums of each group that has begun are there
+pub record ArePlaces (begun : List Bool) (places : List ℕ) (sums : List Sums) : Type 0 where
+  pub inside : (g : ℕ) → get_or begun g false ≡ true → get_or places g 0 < length sums
 
 -- what is taken of a group in one resource: nothing where it has not begun
 abbrev pub taken_at : GroupParts → ℕ → ℕ → ℕ
-taken_at p g i = cond (get_or p.begun g false) (slice_index (get_or p.sums g no_sums).q i) 0
+taken_at p g i = cond (get_or p.begun g false) (slice_index (get_or p.sums (get_or p.places g 0) no_sums).q i) 0
 
 -- for each group what a set takes of it
 pub record ArePartsOf (parts : GroupParts) (set : List Entry) : Type 0 where

@@ -1,9 +1,11 @@
 -- What there is room for on a machine, once all that may be taken there is gone.
-use Rattle.std.specs.Prelude.{◌≡◌, ℕ, ◌<◌, ◌≤◌, Bool, not, nat_lt, List, None, Some, length, slice_get, slice_index}
+use Rattle.std.specs.Prelude.{◌≡◌, ℕ, ◌<◌, ◌≤◌, Bool, true, not, nat_lt, List, None, Some, length, slice_get, slice_index}
+use Rattle.fuxi_terms.specs.Cluster.{is_narrow}
 use Rattle.fuxi_terms.specs.Jobs.{priority_of, group_of, size_at}
 use Rattle.fuxi_terms.specs.Tables.{spot}
 use Rattle.written_roles.specs.Preemption.{is_guaranteed_in, victims_in}
 use Rattle.grant_table.specs.GrantTables.{TableRecord, as_known}
+use Rattle.preempt.specs.declared.entry.Entry.{Entry}
 use Rattle.preempt.specs.declared.entry.Need.{Need}
 use Rattle.preempt.specs.declared.entry.Sums.{Sums}
 use Rattle.preempt.specs.declared.room.Rooms.{Rooms}
@@ -34,10 +36,22 @@ pub record IsFor (n : Need) (r : Rooms) : Type 0 where
   pub priority : r.priority ≡ n.priority
   pub guaranteed : r.guaranteed ≡ n.guaranteed
 
+-- the rooms are for units of a group and a priority, with quota left for one more or not
+pub record IsKind (g p : ℕ) (b : Bool) (r : Rooms) : Type 0 where
+  pub group : r.group ≡ g
+  pub priority : r.priority ≡ p
+  pub guaranteed : r.guaranteed ≡ b
+
 -- the place of such rooms among others
-pub record IsPlaceFor (n : Need) (kinds : List Rooms) (place : ℕ) : Type 0 where
+pub record IsPlaceOf (g p : ℕ) (b : Bool) (kinds : List Rooms) (place : ℕ) : Type 0 where
   pub inside : place < length kinds
-  pub is : (r : Rooms) → slice_get kinds place ≡ Some r → IsFor n r
+  pub is : (r : Rooms) → slice_get kinds place ≡ Some r → IsKind g p b r
+
+-- the rooms are for units of the kind of an entry
+pub record IsKindOf (t : TableRecord) (e : Entry) (r : Rooms) : Type 0 where
+  pub group : r.group ≡ e.group
+  pub priority : r.priority ≡ e.priority
+  pub guaranteed : is_narrow t.cluster (size_at (as_known t.jobs) e.app.0 e.unit.0) ≡ true → r.guaranteed ≡ is_guaranteed_in (board_of t) t.entries (spot e.app.0 e.unit.0 0)
 
 -- by machine the room for what is needed
 pub record AreRoomsFor (t : TableRecord) (n : Need) (rooms : List Sums) : Type 0 where

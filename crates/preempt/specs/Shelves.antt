@@ -53,7 +53,7 @@ pub record HasNoVictims (t : TableRecord) (p : Pair) : Type 0 where
 
 -- whether a group spares one grant of a size, in each of so many resources
 abbrev pub spares_at : GroupUse → List ℕ → ℕ → Bool
-spares_at g size i = not (nat_lt (slice_index g.used i) (slice_index g.quota i + slice_index size i))
+spares_at g size i = not (nat_lt (slice_index g.used i) (slice_index g.quota.now i + slice_index size i))
 
 abbrev pub spares : ℕ → GroupUse → List ℕ → Bool
 spares resources g size = below_each resources (spares_at g size)

@@ -1,5 +1,5 @@
 -- The admitted units, and the order in which they are walked.
-use Rattle.std.specs.Prelude.{ℕ, Bool, cond, nat_eq, nat_lt, List, [], ◌∷◌, ◌++◌, length, map}
+use Rattle.std.specs.Prelude.{◌≡◌, ℕ, Bool, true, false, cond, nat_eq, nat_lt, get_or, List, [], ◌∷◌, ◌++◌, length, map}
 use Rattle.std.specs.List.{flat_map}
 use Rattle.fuxi_terms.specs.Cluster.{JobRecord}
 use Rattle.fuxi_terms.specs.Keys.{Pair}
@@ -18,6 +18,10 @@ all_units jobs = flat_map (λ (j : JobRecord). units_in j (length j.units)) jobs
 abbrev pub backward : {A : Type 0} → (A → Bool) → List A → List A
 backward test [] = []
 backward test (x ∷ xs) = backward test xs ++ cond (test x) (x ∷ []) []
+
+-- the priority of an entry is among those that are present
+pub record HasItsPriority (present : List Bool) (e : Entry) : Type 0 where
+  pub is : get_or present e.priority false ≡ true
 
 -- by lower priority, each of them from the last to the first: entries, and pairs
 abbrev pub of_priority : ℕ → Entry → Bool

@@ -15,7 +15,7 @@ use grant_table::GrantTable;
 // Whether a unit may take any of the grants that have these bounds. What it needs is asked last.
 fn may_take_of(
     table: &GrantTable,
-    groups: &[GroupUse],
+    groups: &[GroupUse<'_>],
     e: &Entry,
     lowest: &[u8; 32],
     loose: Loose,
@@ -40,7 +40,7 @@ fn may_take_of(
 /// Whether any unit that waits may take any grant of those that have some.
 pub(crate) fn may_any_take(
     table: &GrantTable,
-    groups: &[GroupUse],
+    groups: &[GroupUse<'_>],
     holders: &[Entry],
     waiting: &[Entry],
 ) -> bool

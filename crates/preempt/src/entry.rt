@@ -37,9 +37,9 @@ pub(crate) struct Need {
 
 /// What a group is promised and may use, and what it uses.
 #[derive(Clone, Copy)]
-pub(crate) struct GroupUse {
-    pub(crate) quota: [u64; 8],
-    pub(crate) limit: [u64; 8],
+pub(crate) struct GroupUse<'a> {
+    pub(crate) quota: &'a [u64; 8],
+    pub(crate) limit: &'a [u64; 8],
     pub(crate) used: [u64; 8],
 }
 

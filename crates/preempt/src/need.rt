@@ -1,12 +1,12 @@
 //! What a unit that waits needs.
 
-ghost use Rattle.std.specs.Prelude.{◌≡◌, ℕ, ◌+◌, ◌<◌, ◌≤◌, false, Some, None, IfOk, IfSome, MatchOption, slice_get, slice_index, length, map};
+ghost use Rattle.std.specs.Prelude.{◌≡◌, ℕ, ◌+◌, ◌<◌, ◌≤◌, true, false, Some, None, IfOk, IfSome, MatchOption, slice_get, slice_index, length, map};
 ghost use Rattle.std.specs.Option.{option_map};
 ghost use Rattle.std.specs.List.{All, AllByRecursion};
 ghost use Rattle.fuxi_terms.specs.Cluster.{JobRecord, is_narrow};
 ghost use Rattle.fuxi_terms.specs.Jobs.{unit_count, size_at};
 ghost use Rattle.fuxi_terms.specs.Tables.{spot};
-ghost use Rattle.written_roles.specs.Preemption.{victims_in};
+ghost use Rattle.written_roles.specs.Preemption.{is_guaranteed_in, victims_in};
 ghost use Rattle.grant_table.specs.GrantTables.{TableRecord, IsSound, as_known};
 ghost use Rattle.preempt.specs.Given.{AreGroups, IsEntry, IsGroup, IsNeed, board_of, pair_of};
 ghost use Rattle.preempt.specs.Plans.{AreTakable, losers_of};
@@ -77,9 +77,20 @@ fn sum_of(a: &[u64; 8], b: &[u64; 8]) -> [u128; 8]
     q
 }
 
+/// Whether the group of a unit has quota left for one more grant of it.
+pub(crate) fn is_guaranteed(table: &GrantTable, group: &GroupUse<'_>, e: &Entry) -> bool
+    requires entry { IsEntry table.now e.now }
+    requires group { IsGroup table.now e.now.group group.now }
+    ensures { is_narrow table.now.cluster (size_at (as_known table.now.jobs) e.now.app.0 e.now.unit.0) ≡ true → result ≡ is_guaranteed_in (board_of table.now) table.now.entries (spot e.now.app.0 e.now.unit.0 0) }
+{
+    let resources = table.cluster().resources() as usize;
+    let allowed = sum_of(&group.used, &e.size);
+    reach(resources, group.quota, &[0; 8], &allowed)
+}
+
 /// What one more grant of a unit needs, wherever it is, and `None` exactly where it fits nowhere, since it needs
 /// a resource that the cluster does not have.
-pub(crate) fn need_of(table: &GrantTable, group: &GroupUse, e: &Entry) -> Option<Need>
+pub(crate) fn need_of(table: &GrantTable, group: &GroupUse<'_>, e: &Entry) -> Option<Need>
     requires entry { IsEntry table.now e.now }
     requires group { IsGroup table.now e.now.group group.now }
     ensures { MatchOption result (is_narrow table.now.cluster (size_at (as_known table.now.jobs) e.now.app.0 e.now.unit.0) ≡ false) (IsWanted table.now e.now.app.0 e.now.unit.0) }
@@ -93,10 +104,10 @@ pub(crate) fn need_of(table: &GrantTable, group: &GroupUse, e: &Entry) -> Option
         resources,
         group: e.group,
         priority: e.priority,
-        guaranteed: reach(resources, &group.quota, &[0; 8], &allowed),
+        guaranteed: reach(resources, group.quota, &[0; 8], &allowed),
         has: [0; 8],
         fits: [0; 8],
-        limit: group.limit,
+        limit: *group.limit,
         allowed,
     })
 }
@@ -120,7 +131,7 @@ pub(crate) fn victims_for(
     need: &Need,
     e: &Entry,
     shelf: &Shelf<'_>,
-    groups: &[GroupUse],
+    groups: &[GroupUse<'_>],
     scratch: &mut Scratch,
 ) -> Result<Option<Vec<Victim>>, OutOfMemory>
     requires resources { need.now.resources ≤ 8 }

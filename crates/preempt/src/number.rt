@@ -84,7 +84,7 @@ pub(crate) fn needed_number(
 /// The greatest number of grants of this size, at most `most`, that a group spares.
 pub(crate) fn spared_number(
     resources: usize,
-    group: &GroupUse,
+    group: &GroupUse<'_>,
     part: &[u128; 8],
     size: &[u64; 8],
     most: u32,
@@ -107,7 +107,7 @@ pub(crate) fn spared_number(
 }
 
 /// How many grants of an entry may be taken.
-pub(crate) fn may_number(need: &Need, group: &GroupUse, part: &[u128; 8], e: &Entry) -> u32
+pub(crate) fn may_number(need: &Need, group: &GroupUse<'_>, part: &[u128; 8], e: &Entry) -> u32
     requires resources { need.now.resources ≤ 8 }
     requires small { (i : ℕ) → i < 8 → slice_index part.now i < 2 ^ 127 }
     ensures { result ≡ may_number need.now group.now part.now e.now }

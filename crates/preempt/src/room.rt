@@ -6,7 +6,7 @@ ghost use Rattle.std.specs.List.{AllByRecursion};
 ghost use Rattle.fuxi_terms.specs.Lists.{below_each};
 ghost use Rattle.grant_table.specs.GrantTables.{TableRecord};
 ghost use Rattle.preempt.specs.Given.{AreGroups, AreSpared};
-ghost use Rattle.preempt.specs.MachineRooms.{AreRooms, IsFor, IsPlaceFor, IsRoom, within_at};
+ghost use Rattle.preempt.specs.MachineRooms.{AreRooms, IsFor, IsKind, IsPlaceOf, IsRoom, within_at};
 ghost use Rattle.preempt.specs.Shelves.{AreOpen, IsShelf, IsStock, IsWalked};
 
 use crate::entry::{Entry, GroupUse, Need, Sums, lower_of, with_spared};
@@ -68,13 +68,13 @@ fn left_on(
     has: &[u64; 8],
     used: &[u64; 8],
     all: &[u128; 8],
-    group: &GroupUse,
+    group: &GroupUse<'_>,
     own: &[u128; 8],
 ) -> [u128; 8]
     requires resources { resources ≤ 8 }
     requires all_small { (i : ℕ) → i < 8 → slice_index all.now i < 2 ^ 127 }
     requires own_small { (i : ℕ) → i < 8 → slice_index own.now i < 2 ^ 127 }
-    ensures { (i : ℕ) → i < resources → slice_index result i ≡ min ((slice_index has.now i + slice_index all.now i) - slice_index used.now i) ((slice_index group.now.limit i + slice_index own.now i) - slice_index group.now.used i) }
+    ensures { (i : ℕ) → i < resources → slice_index result i ≡ min ((slice_index has.now i + slice_index all.now i) - slice_index used.now i) ((slice_index group.now.limit.now i + slice_index own.now i) - slice_index group.now.used i) }
 {
     let mut q = [0; 8];
     for i in 0..resources {
@@ -86,7 +86,7 @@ fn left_on(
 }
 
 // What there is room for on a machine, once all that may be taken there is gone: it fits, and its group may use it.
-fn room_on(shelf: &Shelf<'_>, spared: &[Entry], need: &Need, groups: &[GroupUse]) -> Sums
+fn room_on(shelf: &Shelf<'_>, spared: &[Entry], need: &Need, groups: &[GroupUse<'_>]) -> Sums
     requires resources { need.now.resources ≤ 8 }
     requires own { need.now.group < 32 }
     requires few { length shelf.now.entries.now ≤ 1000000 }
@@ -183,28 +183,33 @@ pub(crate) fn rooms_of(
     })
 }
 
-// Whether the rooms are for units of the kind of a need.
-fn are_for(rooms: &Rooms, need: &Need) -> bool
-    ensures { result ≡ true → IsFor need.now rooms.now }
+// Whether the rooms are for units of a group and a priority, with quota left for one more or not.
+fn are_for(rooms: &Rooms, group: usize, priority: u8, guaranteed: bool) -> bool
+    ensures { result ≡ true → IsKind group priority guaranteed rooms.now }
 {
-    if rooms.group != need.group {
+    if rooms.group != group {
         return false;
     }
-    if rooms.priority != need.priority {
+    if rooms.priority != priority {
         return false;
     }
-    match need.guaranteed {
+    match guaranteed {
         true => rooms.guaranteed,
         false => !rooms.guaranteed,
     }
 }
 
-/// The place of the rooms for units of the kind of a need.
-pub(crate) fn place_for(kinds: &[Rooms], need: &Need) -> Option<usize>
-    ensures { IfSome result (IsPlaceFor need.now kinds.now) }
+/// The place of the rooms for units of a group and a priority, with quota left for one more or not.
+pub(crate) fn place_for(
+    kinds: &[Rooms],
+    group: usize,
+    priority: u8,
+    guaranteed: bool,
+) -> Option<usize>
+    ensures { IfSome result (IsPlaceOf group priority guaranteed kinds.now) }
 {
     for at in 0..kinds.len() {
-        if are_for(&kinds[at], need) {
+        if are_for(&kinds[at], group, priority, guaranteed) {
             return Some(at);
         }
     }

@@ -12,21 +12,21 @@ ghost use Rattle.written_roles.specs.Preemption.{plan_in};
 ghost use Rattle.grant_table.specs.GrantTables.{as_known};
 ghost use Rattle.preempt.specs.Given.{IsEntry, pair_of};
 ghost use Rattle.preempt.specs.GroupSums.{no_sums};
-ghost use Rattle.preempt.specs.MachineRooms.{AreRooms, AreRoomsFor, IsFor, within_at};
+ghost use Rattle.preempt.specs.MachineRooms.{AreRooms, AreRoomsFor, IsKindOf, within_at};
 ghost use Rattle.preempt.specs.Plans.{IsBoardOf, CanBeMade, plan_as};
 ghost use Rattle.preempt.specs.Search.{GoesOn, IsFound, accepts_at, pairs_on, pairs_at};
 ghost use Rattle.preempt.specs.Shelves.{IsStock, IsWanted};
 
 use crate::chance::may_any_take;
 use crate::entry::{Entry, Need, Sums};
-use crate::need::{need_of, victims_for, waiting_of};
+use crate::need::{is_guaranteed, need_of, victims_for, waiting_of};
 use crate::parts::Parts;
 use crate::plan::{Plan, Victims};
 use crate::room::{Rooms, is_within, place_for, rooms_of};
 use crate::shelf::{groups_of, shelf_of};
 use crate::stock::{Stock, entries_on, free_of, has_any_on, open_rows};
 use crate::victims::Scratch;
-use crate::walk::{by_priority, counts_of, holders_of};
+use crate::walk::{by_priority, counts_of, holders_of, priorities_of};
 use fuxi_terms::OutOfMemory;
 use grant_table::{Asking, GrantTable, Pick, Steps};
 use schedule_unit::MachineNo;
@@ -161,21 +161,22 @@ fn plan_within<P: Asking>(
     stock: &Stock<'_>,
     rooms: &Rooms,
     e: &Entry,
-    need: &Need,
     scratch: &mut Scratch,
 ) -> Result<Option<Plan>, OutOfMemory>
     requires entry { IsEntry table.now e.now }
     requires stock { IsStock table.now stock.now }
-    requires wanted { IsWanted table.now e.now.app.0 e.now.unit.0 need.now }
     requires rooms { AreRooms table.now rooms.now }
-    requires kind { IsFor need.now rooms.now }
+    requires kind { IsKindOf table.now e.now rooms.now }
     ensures { IfOk result (IsFound table.now (P.usable placer.now) (pairs_on table.now (P.usable placer.now) (pair_of e.now))) }
 {
-    let _cluster = table.cluster();
-    if !is_within(need.resources, &e.size, &rooms.widest) {
+    let resources = table.cluster().resources() as usize;
+    if !is_within(resources, &e.size, &rooms.widest) {
         return Ok(None);
     }
-    first_within(alloc, table, placer, stock, &rooms.each, e, need, scratch)
+    match need_of(table, &stock.groups[e.group], e) {
+        Some(need) => first_within(alloc, table, placer, stock, &rooms.each, e, &need, scratch),
+        None => Ok(None),
+    }
 }
 
 // The plan of the second unit of a kind. The rooms are made for it, and kept for those behind it.
@@ -197,7 +198,7 @@ fn plan_with_rooms<P: Asking>(
     ensures kinds { OnOk result (AllByRecursion (AreRooms table.now) kinds.new.items) }
 {
     let rooms = rooms_of(alloc, table, stock, need, &mut scratch.parts)?;
-    let found = plan_within(alloc, table, placer, stock, &rooms, e, need, scratch)?;
+    let found = plan_within(alloc, table, placer, stock, &rooms, e, scratch)?;
     kinds.push(rooms)?;
     Ok(found)
 }
@@ -221,13 +222,15 @@ fn unit_plan<P: Asking>(
     ensures kinds { OnOk result (AllByRecursion (AreRooms table.now) kinds.new.items) }
 {
     let _cluster = table.cluster();
-    let need = match need_of(table, &stock.groups[e.group], e) {
+    let group = &stock.groups[e.group];
+    let guaranteed = is_guaranteed(table, group, e);
+    if let Some(at) = place_for(kinds, e.group, e.priority, guaranteed) {
+        return plan_within(alloc, table, placer, stock, &kinds[at], e, scratch);
+    }
+    let need = match need_of(table, group, e) {
         Some(need) => need,
         None => return Ok(None),
     };
-    if let Some(at) = place_for(kinds, &need) {
-        return plan_within(alloc, table, placer, stock, &kinds[at], e, &need, scratch);
-    }
     if tried[e.group] {
         return plan_with_rooms(alloc, table, placer, stock, e, &need, kinds, scratch);
     }
@@ -290,7 +293,8 @@ pub fn find<P: Asking, L: Ledger>(
     if placer.waiting_len() == 0 {
         return Ok(None);
     }
-    let groups = groups_of(alloc, table)?;
+    let nothing = [0; 8];
+    let groups = groups_of(alloc, table, &nothing)?;
     let units = holders_of(alloc, table)?;
     let line = waiting_of(alloc, table, placer)?;
     if !may_any_take(table, &groups, &units, &line) {
@@ -306,11 +310,15 @@ pub fn find<P: Asking, L: Ledger>(
         free: &free,
     };
     let mut scratch = Scratch {
-        set: Vec::new(alloc),
+        set: Vec::with_capacity(alloc, 8)?,
         parts: Parts::new(alloc)?,
     };
+    let present = priorities_of(&line);
     for late in 0..10_u8 {
         let priority = 9 - late;
+        if !present[priority as usize] {
+            continue;
+        }
         match first_unit(alloc, table, placer, &stock, &line, priority, &mut scratch)? {
             Some(plan) => return Ok(Some(plan)),
             None => {}

@@ -72,7 +72,7 @@ fn loosened(loose: Loose, group: usize) -> Loose
 }
 
 /// Whether a group spares one grant of this size, in each of so many resources.
-pub(crate) fn spares(resources: usize, group: &GroupUse, size: &[u64; 8]) -> bool
+pub(crate) fn spares(resources: usize, group: &GroupUse<'_>, size: &[u64; 8]) -> bool
     requires { resources ≤ 8 }
     ensures { result ≡ spares resources group.now size.now }
 {
@@ -97,7 +97,7 @@ pub(crate) fn lowest_of(entries: &[Entry]) -> [u8; 32]
 }
 
 /// The groups that spare one of their entries.
-pub(crate) fn loose_of(entries: &[Entry], resources: usize, groups: &[GroupUse]) -> Loose
+pub(crate) fn loose_of(entries: &[Entry], resources: usize, groups: &[GroupUse<'_>]) -> Loose
     requires small { All (λ e. e.group < 32) entries.now }
     requires resources { resources ≤ 8 }
     requires long { length groups.now ≡ 32 }
@@ -119,7 +119,7 @@ fn spared_of(
     entries: &[Entry],
     loose: Loose,
     resources: usize,
-    groups: &[GroupUse],
+    groups: &[GroupUse<'_>],
     parts: &mut Parts,
 ) -> Result<Vec<Entry>, OutOfMemory>
     requires few { length entries.now ≤ 1000000 }
@@ -143,7 +143,7 @@ fn spared_of(
             continue;
         }
         spared.push(recounted(e, count))?;
-        parts.put(e.group, raised(&part, &e.size, count));
+        parts.put(e.group, raised(&part, &e.size, count))?;
     }
     Ok(spared)
 }
@@ -153,7 +153,7 @@ pub(crate) fn spared_on(
     alloc: Global,
     entries: &[Entry],
     resources: usize,
-    groups: &[GroupUse],
+    groups: &[GroupUse<'_>],
     parts: &mut Parts,
 ) -> Result<Vec<Entry>, OutOfMemory>
     requires few { length entries.now ≤ 1000000 }
@@ -168,8 +168,9 @@ pub(crate) fn spared_on(
 }
 
 // What a group is promised, may use and uses. One that the cluster does not have has nothing.
-fn group_use(table: &GrantTable, number: GroupNo) -> GroupUse
-    requires { number.0 < 32 }
+fn group_use<'a>(table: &'a GrantTable, nothing: &'a [u64; 8], number: GroupNo) -> GroupUse<'a>
+    requires number { number.0 < 32 }
+    requires nothing { (i : ℕ) → slice_index nothing.now i ≡ 0 }
     ensures { IsGroup table.now number.0 result }
 {
     let cluster = table.cluster();
@@ -177,26 +178,31 @@ fn group_use(table: &GrantTable, number: GroupNo) -> GroupUse
     if number.0 < cluster.groups() {
         let group = cluster.group(number);
         GroupUse {
-            quota: group.quota.q,
-            limit: group.limit.q,
+            quota: &group.quota.q,
+            limit: &group.limit.q,
             used,
         }
     } else {
         GroupUse {
-            quota: [0; 8],
-            limit: [0; 8],
+            quota: nothing,
+            limit: nothing,
             used,
         }
     }
 }
 
 /// What each of the 32 groups is promised, may use and uses.
-pub(crate) fn groups_of(alloc: Global, table: &GrantTable) -> Result<Vec<GroupUse>, OutOfMemory>
+pub(crate) fn groups_of<'a>(
+    alloc: Global,
+    table: &'a GrantTable,
+    nothing: &'a [u64; 8],
+) -> Result<Vec<GroupUse<'a>>, OutOfMemory>
+    requires { (i : ℕ) → slice_index nothing.now i ≡ 0 }
     ensures { IfOk result (λ groups. AreGroups table.now groups.items) }
 {
     let mut groups = Vec::with_capacity(alloc, 32)?;
     for number in 0..32_u32 {
-        groups.push(group_use(table, GroupNo(number)))?;
+        groups.push(group_use(table, nothing, GroupNo(number)))?;
     }
     Ok(groups)
 }

@@ -17,7 +17,7 @@ use std::sync::ledger::Ledger;
 #[derive(Clone, Copy)]
 pub(crate) struct Stock<'a> {
     /// What each of the 32 groups is promised, may use and uses.
-    pub(crate) groups: &'a [GroupUse],
+    pub(crate) groups: &'a [GroupUse<'a>],
     /// The units that have grants, in the order of the walk.
     pub(crate) holders: &'a [Entry],
     /// What each of them has by machine.
@@ -44,7 +44,7 @@ pub(crate) fn free_of<L: Ledger>(
 }
 
 // Whether a unit may take any grant of another one.
-fn may_take(need: &Need, groups: &[GroupUse], e: &Entry) -> bool
+fn may_take(need: &Need, groups: &[GroupUse<'_>], e: &Entry) -> bool
     requires resources { need.now.resources ≤ 8 }
     requires small { e.now.group < 32 }
     requires long { length groups.now ≡ 32 }
@@ -71,7 +71,7 @@ pub(crate) fn open_rows<'a>(
     ensures { IfOk result (λ rows. AreOpen table.now need.now stock.now.holders.now rows.items) }
 {
     let _cluster = table.cluster();
-    let mut rows = Vec::new(alloc);
+    let mut rows = Vec::with_capacity(alloc, stock.holders.len())?;
     for at in 0..stock.holders.len() {
         if !may_take(need, stock.groups, &stock.holders[at]) {
             continue;

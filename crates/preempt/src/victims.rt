@@ -37,7 +37,7 @@ fn take_all(
     scratch: &mut Scratch,
     entries: &[Entry],
     need: &Need,
-    groups: &[GroupUse],
+    groups: &[GroupUse<'_>],
 ) -> Result<Taken, OutOfMemory>
     requires resources { need.now.resources ≤ 8 }
     requires own { need.now.group < 32 }
@@ -58,8 +58,11 @@ fn take_all(
         let may = may_number(need, &groups[e.group], &part, e);
         let count = needed_number(need, &all, &own, e, may);
         set.push(recounted(e, count))?;
+        if count == 0 {
+            continue;
+        }
         all = raised(&all, &e.size, count);
-        parts.put(e.group, raised(&part, &e.size, count));
+        parts.put(e.group, raised(&part, &e.size, count))?;
     }
     Ok(Taken {
         all,
@@ -79,7 +82,7 @@ fn keep_needed(
     requires sums { AreSumsOf need.now.group taken.now set.now }
     ensures { IfOk result (λ kept. (t : TableRecord) (s : Spot) → IsNeed t s need.now → AllByRecursion (IsEntry t) set.now → IsKept t s set.now kept.items) }
 {
-    let mut kept = Vec::new(alloc);
+    let mut kept = Vec::with_capacity(alloc, set.len())?;
     let mut all = taken.all;
     let mut own = taken.own;
     for e in set {
@@ -97,7 +100,7 @@ fn keep_needed(
 fn victims_of(alloc: Global, entries: &[Entry]) -> Result<Vec<Victim>, OutOfMemory>
     ensures { IfOk result (λ victims. victims.items ≡ map victim_of (filter has_grants entries.now)) }
 {
-    let mut victims = Vec::new(alloc);
+    let mut victims = Vec::with_capacity(alloc, entries.len())?;
     for e in entries {
         if e.count > 0 {
             victims.push(Victim {
@@ -124,7 +127,7 @@ pub(crate) fn victims_on(
     alloc: Global,
     entries: &[Entry],
     need: &Need,
-    groups: &[GroupUse],
+    groups: &[GroupUse<'_>],
     scratch: &mut Scratch,
 ) -> Result<Option<Vec<Victim>>, OutOfMemory>
     requires resources { need.now.resources ≤ 8 }

@@ -7,7 +7,7 @@ ghost use Rattle.fuxi_terms.specs.Cluster.{JobRecord};
 ghost use Rattle.grant_table.specs.GrantTables.{TableRecord, IsSound};
 ghost use Rattle.preempt.specs.Given.{IsEntry, pair_of};
 ghost use Rattle.preempt.specs.Shelves.{AreHolders, AreRead, IsListed};
-ghost use Rattle.preempt.specs.Walks.{holds_some, units_in, backward, of_priority, entries_by_priority};
+ghost use Rattle.preempt.specs.Walks.{HasItsPriority, holds_some, units_in, backward, of_priority, entries_by_priority};
 
 use crate::entry::{Entry, recounted};
 use fuxi_terms::OutOfMemory;
@@ -56,7 +56,8 @@ pub(crate) fn holders_of(alloc: Global, table: &GrantTable) -> Result<Vec<Entry>
     ensures holders { IfOk result (λ holders. AreHolders table.now (entries_by_priority holders.items 10)) }
 {
     let _cluster = table.cluster();
-    let mut holders = Vec::with_capacity(alloc, table.jobs() as usize)?;
+    // Mostly that is enough, so that the list does not grow.
+    let mut holders = Vec::with_capacity(alloc, 2 * table.jobs() as usize)?;
     for index in 0..table.jobs() {
         push_holders(&mut holders, table, index)?;
     }
@@ -76,12 +77,28 @@ fn push_priority(sorted: &mut Vec<Entry>, units: &[Entry], priority: u8) -> Resu
     Ok(())
 }
 
+/// Which priorities any of these units has.
+pub(crate) fn priorities_of(units: &[Entry]) -> [bool; 256]
+    ensures { AllByRecursion (HasItsPriority result) units.now }
+{
+    let mut present = [false; 256];
+    for e in units {
+        let priority = e.priority;
+        present[priority as usize] = true;
+    }
+    present
+}
+
 /// In the order of the walk, where they stand in that of job and unit.
 pub(crate) fn by_priority(alloc: Global, units: &[Entry]) -> Result<Vec<Entry>, OutOfMemory>
     ensures { IfOk result (λ sorted. sorted.items ≡ entries_by_priority units.now 10) }
 {
     let mut sorted = Vec::with_capacity(alloc, units.len())?;
+    let present = priorities_of(units);
     for priority in 0..10_u8 {
+        if !present[priority as usize] {
+            continue;
+        }
         push_priority(&mut sorted, units, priority)?;
     }
     Ok(sorted)

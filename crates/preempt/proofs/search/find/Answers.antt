@@ -4,7 +4,8 @@ use Rattle.written_roles.specs.Preemption.{first_plan_in, falling_priorities}
 use Rattle.preempt.specs.Given.{AreGroups, IsEntry, board_at, pair_of}
 use Rattle.preempt.specs.Search.{IsFound, pairs_at}
 use Rattle.preempt.specs.Shelves.{AreFree, AreHolders, AreRead, HasNoVictims}
-use Rattle.preempt.specs.Walks.{entries_by_priority}
+use Rattle.preempt.specs.Walks.{HasItsPriority, entries_by_priority}
+use Rattle.preempt.proofs.Priorities.{search_without}
 use Rattle.preempt.proofs.Served.{down_to, line_without, passed_priority, found_priority, same_plan}
 use Rattle.preempt.proofs.search.find.Goals as goal
 
@@ -36,6 +37,15 @@ loop-late-preserved g c =
     let pairs = ap (map pair_of) c.deref-in-loop-late.ensures.value ∙ c.in_ok-line.ensures.pairs in
     let found = subst (λ ps. IsFound t usable (pairs_at t usable (9 - late) ps) None) pairs (subst (IsFound t usable (pairs_at t usable (9 - late) (map pair_of c.deref-in-loop-late.result.now))) c.in-None.is c.in_ok-plan.ensures) in
     passed_priority t usable line late c.loop-late-test.true found c.loop-late.invariant
+
+pub loop-late-preserved-then-not-present-priority : goal.loop-late-preserved-then-not-present-priority
+loop-late-preserved-then-not-present-priority g c =
+    let t = c.args.table.now in
+    let usable = g.P.Asking.usable c.args.placer.now in
+    let late = c.loop-late.late in
+    let line = c.in_ok-line.line.items in
+    let found = search_without c.priorities_of-present.result (9 - late) c.if-not-present-priority.true t usable line c.in_ok-line.ensures.entries (subst (AllByRecursion (HasItsPriority c.priorities_of-present.result)) c.deref-10.ensures.value c.priorities_of-present.ensures) in
+    passed_priority t usable (g.P.Asking.line c.args.placer.now) late c.loop-late-test.true (subst (λ ps. IsFound t usable (pairs_at t usable (9 - late) ps) None) c.in_ok-line.ensures.pairs found) c.loop-late.invariant
 
 pub returns-clause-plan : goal.returns-clause-plan
 returns-clause-plan g c = λ B is.

@@ -50,7 +50,7 @@ loop-e-preserved c =
     record {
       few = let l = c.loop-e.invariant.few in let a = ap length pushed ∙ length-append before (recounted e n ∷ []) in omega (arith, l, a);
       parts = subst (ArePartsOf c.put.new.self) (sym pushed)
-          (parts_more c.loop-e.parts c.put.new.self before (recounted e n) part c.raised.result c.loop-e.invariant.parts inside c.of-part.ensures c.raised.ensures.is c.raised.ensures.small c.put.ensures);
+          (parts_more c.loop-e.parts c.put.new.self before (recounted e n) part c.raised.result c.loop-e.invariant.parts inside c.of-part.ensures c.raised.ensures.is c.raised.ensures.small c.in_ok-put.ensures);
       at = λ t m all are resources. subst (AtSpared t m entries (k + 1)) (sym pushed)
           (spared_goes_on t m entries k before c.args.resources c.args.groups.now no_entry part n all are resources (c.loop-e.invariant.at t m all are resources) c.loop-e-test.true c.requires.resources
           (λ i lt. c.of-part.ensures i lt ∙ c.loop-e.invariant.parts.is e.group i inside lt) c.spared_number-count.ensures some);

@@ -10,11 +10,11 @@ loop-e-init c =
     let sums = c.requires.sums in
     let few = c.requires.few in
     record {
-      all = λ i h. let a = sums.all i h in let z = ap (total_in i) c.new-kept.ensures.items in omega (arith, a, z);
-      own = λ i h. let a = sums.own i h in let z = ap (part_in c.args.need.now.group i) c.new-kept.ensures.items in omega (arith, a, z);
+      all = λ i h. let a = sums.all i h in let z = ap (total_in i) c.in_ok-kept.ensures.items in omega (arith, a, z);
+      own = λ i h. let a = sums.own i h in let z = ap (part_in c.args.need.now.group i) c.in_ok-kept.ensures.items in omega (arith, a, z);
       all_small = λ i h. let a = sums.all_small i h in omega (arith, a, few);
       own_small = λ i h. let a = sums.own_small i h in omega (arith, a, few);
-      at = λ t s need each. subst (AtKeeping t s c.args.set.now 0) (sym c.new-kept.ensures.items) (keeping_starts t s c.args.set.now);
+      at = λ t s need each. subst (AtKeeping t s c.args.set.now 0) (sym c.in_ok-kept.ensures.items) (keeping_starts t s c.args.set.now);
     }
 
 pub loop-e-preserved : goal.loop-e-preserved
