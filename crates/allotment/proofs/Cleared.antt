@@ -1,6 +1,6 @@
 -- All grants of a machine, or of a job, are gone.
 use Rattle.std.proofs.Common.{◌≡◌, ℕ, ◌+◌, ◌<◌, Bool, true, false, cond, not, nat_eq, nat_lt, List, [], ◌∷◌, length, refl, sym, ◌∙◌, ap, subst, arith}
-use Rattle.std.specs.Prelude.{◌&&◌, ◌||◌, Some, None}
+use Rattle.std.specs.Prelude.{◌≤◌, ◌&&◌, ◌||◌, Some, None, slice_get, zero, suc}
 use Rattle.std.specs.Option.{unwrap_or, option_map}
 use Rattle.std.specs.declared.cmp.Ordering.TheVariants.{Equal}
 use Rattle.std.specs.FinMap.Entries.{where_key, find, find-where_key}
@@ -10,9 +10,10 @@ use Rattle.fuxi_terms.specs.Counts.{count}
 use Rattle.fuxi_terms.specs.Jobs.{KnownJob, job_of, unit_count}
 use Rattle.fuxi_terms.specs.Keys.{Spot, spot_cmp}
 use Rattle.fuxi_terms.specs.Limits.{greatest_count}
-use Rattle.fuxi_terms.proofs.Booleans.{both_true, number_is}
+use Rattle.fuxi_terms.proofs.Booleans.{number_is}
 use Rattle.fuxi_terms.proofs.CountsLemmas.{same_counts, counts-where_key}
 use Rattle.fuxi_terms.proofs.KeyOrders.{spot_total, same_spot}
+use Rattle.fuxi_terms.proofs.Lists.{all_at}
 use Rattle.fuxi_terms.proofs.Spots.{each_found}
 use Rattle.written_roles.specs.Masters.{Master}
 use Rattle.grant_table.specs.GrantTables.{TableRecord, IsSound, AreJobs, as_known}
@@ -67,27 +68,39 @@ none_on s j u = let f : nat_lt s.machine 0 ≡ false = grind (arith, nat_tests) 
     none true false = refl
     none false u = refl
 
--- ---- a spot with grants is of an admitted unit, on a machine of the cluster, of a job below 256
-job_low : (js : List JobRecord) → AreJobs js → (a : ℕ) → 0 < unit_count (as_known js) a → a < 256
-job_low [] h a some = absurd (omega (arith, some))
-job_low (j ∷ js) h a some = by (nat_eq j.number a) refl some (job_low js h.1.1 a)
+-- ---- the last job has the greatest number
+one_more : (k : JobRecord) (js : List JobRecord) (a most : ℕ) → k.number ≤ most → (0 < unit_count (as_known js) a → a ≤ most) → 0 < unit_count (as_known (k ∷ js)) a → a ≤ most
+one_more k js a most below rest some = by (nat_eq k.number a) refl some
   where
-    by : (b : Bool) → nat_eq j.number a ≡ b → 0 < length (unwrap_or (option_map (λ (k : KnownJob). k.job.units) (cond b (Some (record { job = j; ended = false })) (job_of (as_known js) a))) []) → (0 < unit_count (as_known js) a → a < 256) → a < 256
-    by true e s r = let t : nat_lt j.number 256 ≡ true = (both_true (nat_lt j.number 256) _ h.0).0 in let same = number_is j.number a e in grind (arith, nat_tests, t, same)
-    by false e s r = r s
+    by : (b : Bool) → nat_eq k.number a ≡ b → 0 < length (unwrap_or (option_map (λ (x : KnownJob). x.job.units) (cond b (Some (record { job = k; ended = false })) (job_of (as_known js) a))) []) → a ≤ most
+    by true e s = subst (λ x. x ≤ most) (number_is k.number a e) below
+    by false e s = rest s
 
+pub job_below : (js : List JobRecord) → AreJobs js → (n : ℕ) (j : JobRecord) → slice_get js n ≡ Some j → length js ≤ n + 1 → (a : ℕ) → 0 < unit_count (as_known js) a → a ≤ j.number
+job_below [] h n j at last a some = absurd (omega (arith, some))
+job_below (k ∷ []) h zero j at last a some = one_more k [] a j.number (let e : k ≡ j = cc in subst (λ (x : JobRecord). k.number ≤ x.number) e (omega arith)) (λ s. absurd (omega (arith, s))) some
+job_below (k ∷ []) h (suc n) j at last a some = cc
+job_below (k ∷ l ∷ js) h zero j at last a some = absurd (omega (arith, last))
+job_below (k ∷ l ∷ js) h (suc n) j at last a some =
+    let less : k.number < j.number = all_at (λ (x : JobRecord). k.number < x.number) (l ∷ js) n j h.1.0 at in
+    one_more k (l ∷ js) a j.number (omega (arith, less)) (λ s. job_below (l ∷ js) h.1.1 n j at (omega (arith, last)) a s) some
+
+-- ---- without jobs there is no unit
+pub no_job : (js : List JobRecord) → length js < 1 → (a : ℕ) → 0 < unit_count (as_known js) a → a < 0
+no_job [] few a some = absurd (omega (arith, some))
+no_job (j ∷ js) few a some = absurd (omega (arith, few))
+
+-- ---- a spot with grants is of an admitted unit, on a machine of the cluster
 record IsPlaced (t : TableRecord) (s : Spot) : Type 0 where
   unit : is_admitted t s.job s.unit ≡ true
   machine : nat_lt s.machine (length t.cluster.machines) ≡ true
-  job : nat_lt s.job 256 ≡ true
 
 placed : (t : TableRecord) → IsSound t → (s : Spot) → 0 < count spot_cmp t.entries s → IsPlaced t s
 placed t sound s some =
     let p = each_found (λ (x : Spot). (x.unit < unit_count (as_known t.jobs) x.job) × (x.machine < length t.cluster.machines)) s t.entries some sound.admitted in
     let u = p.0 in
     let m = p.1 in
-    let low = job_low t.jobs sound.in_order s.job (omega (arith, u)) in
-    record { unit = grind (arith, nat_tests, u); machine = grind (arith, nat_tests, m); job = grind (arith, nat_tests, low) }
+    record { unit = grind (arith, nat_tests, u); machine = grind (arith, nat_tests, m) }
 
 gone_same : (n : ℕ) (g h : Bool) → (0 < n → g ≡ h) → cond g 0 n ≡ cond h 0 n
 gone_same n g h same = by (nat_lt 0 n) refl
@@ -120,9 +133,12 @@ left_without g h x y sx sy alike same a = record {
         (λ s. a.counts s ∙ gone_same (count spot_cmp x.table.entries s) (g s) (h s) (same s)
         ∙ sym (ap (λ o. unwrap_or o 0) (find-where_key spot_cmp (λ s. not (h s)) s (λ q t. ap not (alike q s t)) x.table.entries) ∙ turned (h s) s))
 
-pub machine_left : (m : ℕ) (x y : AllotmentRecord) → IsSound x.table → IsSound y.table → Clears (λ s. nat_lt s.job 256 && (is_admitted x.table s.job s.unit && nat_eq s.machine m)) x y → LeftWithout (λ s. nat_eq s.machine m) x y
-machine_left m x y sx sy a = left_without (λ s. nat_lt s.job 256 && (is_admitted x.table s.job s.unit && nat_eq s.machine m)) (λ s. nat_eq s.machine m) x y sx sy (λ s q t. ap (λ (z : Spot). nat_eq z.machine m) (sym (same_spot q s t)))
-    (λ s some. let p = placed x.table sx s some in let j = p.job in let u = p.unit in λ i. j i && (u i && nat_eq s.machine m)) a
+pub machine_left : (n m : ℕ) (x y : AllotmentRecord) → IsSound x.table → IsSound y.table → ((a : ℕ) → 0 < unit_count (as_known x.table.jobs) a → a < n) → Clears (λ s. nat_lt s.job n && (is_admitted x.table s.job s.unit && nat_eq s.machine m)) x y → LeftWithout (λ s. nat_eq s.machine m) x y
+machine_left n m x y sx sy low a = left_without (λ s. nat_lt s.job n && (is_admitted x.table s.job s.unit && nat_eq s.machine m)) (λ s. nat_eq s.machine m) x y sx sy (λ s q t. ap (λ (z : Spot). nat_eq z.machine m) (sym (same_spot q s t)))
+    (λ s some. let u = (placed x.table sx s some).unit in let j = below s u in λ i. j i && (u i && nat_eq s.machine m)) a
+  where
+    below : (s : Spot) → is_admitted x.table s.job s.unit ≡ true → nat_lt s.job n ≡ true
+    below s u = let less : s.job < n = low s.job (grind (arith, nat_tests, u)) in grind (arith, nat_tests, less)
 
 pub job_left : (b : ℕ) (x y : AllotmentRecord) → IsSound x.table → IsSound y.table → Clears (λ s. nat_eq s.job b && (is_admitted x.table b s.unit && nat_lt s.machine (length x.table.cluster.machines))) x y → LeftWithout (λ s. nat_eq s.job b) x y
 job_left b x y sx sy a = left_without (λ s. nat_eq s.job b && (is_admitted x.table b s.unit && nat_lt s.machine (length x.table.cluster.machines))) (λ s. nat_eq s.job b) x y sx sy (λ s q t. ap (λ (z : Spot). nat_eq z.job b) (sym (same_spot q s t)))

@@ -199,6 +199,17 @@ impl Allotment {
         Ok(())
     }
 
+    // How many numbers the jobs of the table can have: one more than the last has, which has the greatest.
+    fn numbers(&self) -> u32
+        ensures { (a : ℕ) → 0 < unit_count (as_known self.now.table.jobs) a → a < result }
+    {
+        let _sound = self.table.cluster();
+        match self.table.jobs().checked_sub(1) {
+            Some(last) => self.table.job(last).app().0 + 1,
+            None => 0,
+        }
+    }
+
     // All grants of a job on a machine are gone.
     fn clear_units(&mut self, app: AppNo, machine: MachineNo) -> Result<(), OutOfMemory>
         requires waits { AllWait self.old }
@@ -314,7 +325,7 @@ impl Allotment {
         ensures takes { OnOk result (OnlyTakes self.old self.new) }
     {
         let _before = self.table.cluster();
-        for number in 0..MOST_JOBS {
+        for number in 0..self.numbers() {
             self.clear_units(AppNo(number), machine)?;
         }
         let _after = self.table.cluster();

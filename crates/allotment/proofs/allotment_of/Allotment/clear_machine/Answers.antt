@@ -1,11 +1,11 @@
-use Rattle.std.proofs.Common.{◌≡◌, nat_eq, nat_lt, List, ap, subst, arith}
+use Rattle.std.proofs.Common.{◌<◌, ℕ, nat_eq, nat_lt, List, ap, subst, arith}
 use Rattle.std.specs.Prelude.{◌&&◌}
 use Rattle.fuxi_terms.specs.Cluster.{JobRecord}
 use Rattle.fuxi_terms.specs.Jobs.{unit_count}
 use Rattle.grant_table.specs.GrantTables.{TableRecord, IsSound, as_known}
 use Rattle.allotment.specs.Allotted.{AllotmentRecord, Clears}
 use Rattle.allotment.proofs.ClearsLemmas.{cleared_as, cleared_both}
-use Rattle.allotment.proofs.Cleared.{LeftWithout, is_admitted, job_more, machine_left}
+use Rattle.allotment.proofs.Cleared.{LeftWithout, job_more, machine_left}
 use Rattle.allotment.proofs.allotment_of.Allotment.clear_machine.Goals as goal
 use Rattle.allotment.proofs.allotment_of.Allotment.clear_machine.Goals.{After-cluster-after}
 
@@ -21,9 +21,9 @@ left : (c : After-cluster-after) → LeftWithout (λ s. nat_eq s.machine c.args.
 left c =
     let x = c.args.self.now in
     let m = c.args.machine.0 in
-    let end : c.loop-number.number ≡ 256 = let a = c.loop-number-test.false in let b = c.loop-number.auto.number-end in omega (arith, a, b) in
-    let all = subst (λ n. Clears (λ s. nat_lt s.job n && (is_admitted x.table s.job s.unit && nat_eq s.machine m)) x c.loop-number.self) end c.loop-number.invariant in
-    machine_left m x c.loop-number.self (subst (λ (r : AllotmentRecord). IsSound r.table) c.self.view_is c.cluster-before.ensures.sound) (subst (λ (r : AllotmentRecord). IsSound r.table) c.self-2.view_is c.cluster-after.ensures.sound) all
+    let n = c.loop-number.number in
+    let low : (a : ℕ) → 0 < unit_count (as_known x.table.jobs) a → a < n = λ a some. let below = c.numbers-number-end.ensures a some in let end = c.loop-number-test.false in omega (arith, below, end) in
+    machine_left n m x c.loop-number.self (subst (λ (r : AllotmentRecord). IsSound r.table) c.self.view_is c.cluster-before.ensures.sound) (subst (λ (r : AllotmentRecord). IsSound r.table) c.self-2.view_is c.cluster-after.ensures.sound) low c.loop-number.invariant
 
 pub returns-clause-stands : goal.returns-clause-stands
 returns-clause-stands c = (left c).stands
