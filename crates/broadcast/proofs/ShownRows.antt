@@ -1,9 +1,10 @@
 -- Rows that are shown to one agent after another.
-use Rattle.std.proofs.Common.{◌≡◌, ℕ, ◌<◌, true, false, List, [], length, Option, Some, slice_get, refl, sym, ◌∙◌, ap, subst}
+use Rattle.std.proofs.Common.{◌≡◌, ℕ, ◌<◌, true, false, nat_eq, List, [], length, Option, Some, None, slice_get, refl, sym, ◌∙◌, ap, subst}
 use Rattle.std.specs.Option.{unwrap_or}
 use Rattle.std.proofs.lemmas.Option.{slice_get_within}
 use Rattle.fuxi_terms.specs.Keys.{RowKey, row_cmp, Spot}
 use Rattle.fuxi_terms.specs.Numbers.{has_number}
+use Rattle.fuxi_terms.proofs.Booleans.{eq_turned, or_false}
 use Rattle.fuxi_terms.specs.Rows.{IsRow, patched_row}
 use Rattle.schedule_unit.specs.declared.party.MachineNo.{MachineNo}
 use Rattle.written_net.specs.Ledgers.{row_ledger}
@@ -14,7 +15,7 @@ use Rattle.fuxi_terms.specs.NumbersSet.{numbers_set}
 use Rattle.broadcast.specs.Shown.{Shows}
 use Rattle.broadcast.specs.AllShown.{Down, is_machine, AreInOrder, RowsAreBefore, ShowsRows}
 use Rattle.broadcast.specs.OfNumbers.{AreReached}
-use Rattle.broadcast.specs.TouchedNumbers.{touched_on, MayBeSet}
+use Rattle.broadcast.specs.TouchedNumbers.{touched_on, named_machine, MayBeSet}
 use Rattle.broadcast.proofs.ShownLemmas.{shown_kept}
 use Rattle.broadcast.proofs.TouchedRows.{RowsFollow, touched_row, may_be_set}
 
@@ -28,6 +29,11 @@ module _ (t : TableRecord) (sound : IsSound t) (ss : List Spot) (order : AreInOr
 
   pub row_at : RowsFollow → numbers_set row_cmp d.outgoing.present ns ≡ row_of (as_known t.jobs) i t.entries
   row_at follow = (λ j. numbers_set row_cmp (before.rows i d was j) (numbers_are j)) ∙ touched_row t sound i follow ss order before.before before.is
+
+-- a machine that is not the one that may be named
+pub not_forced : (o : Option MachineNo) (m : ℕ) → has_number m (named_machine o) ≡ false → is_machine o m ≡ false
+not_forced None m left = refl
+not_forced (Some n) m left = eq_turned n.0 m ∙ sym (or_false (nat_eq m n.0)) ∙ left
 
 -- the others have no number, and are not forced
 pub all_shown : (t : TableRecord) → IsSound t → (ss : List Spot) → AreInOrder ss → (forced : Option MachineNo) (old now : List Down) → RowsAreBefore t ss old → RowsFollow → (due : List ℕ) → ((m : ℕ) → m < length old → has_number m due ≡ false → ([] ≡ touched_on t m ss) × (is_machine forced m ≡ false)) → AreReached (ShowsRow t forced) due old now

@@ -1,5 +1,5 @@
 -- The numbers of the jobs of a table: they rise, and each known job is among them.
-use Rattle.std.proofs.Common.{◌≡◌, ℕ, ◌<◌, Bool, true, false, cond, nat_eq, List, [], ◌∷◌, map, Some, refl, sym, ◌∙◌}
+use Rattle.std.proofs.Common.{◌≡◌, ℕ, ◌<◌, Bool, true, false, cond, nat_eq, List, [], ◌∷◌, length, get_or, slice_get, Option, Some, None, refl, sym, ◌∙◌, ap, arith}
 use Rattle.std.specs.Prelude.{◌||◌, is_some}
 use Rattle.std.specs.List.{AllByRecursion}
 use Rattle.std.specs.List.Sorted.{IsStrictlySortedBy}
@@ -11,9 +11,12 @@ use Rattle.fuxi_terms.specs.Jobs.{KnownJob, job_of, is_known}
 use Rattle.fuxi_terms.specs.Numbers.{has_number}
 use Rattle.fuxi_terms.proofs.Booleans.{eq_turned, or_left, or_right}
 use Rattle.grant_table.specs.GrantTables.{as_known, AreJobs}
-
-abbrev pub numbers_in : List JobRecord → List ℕ
-numbers_in js = map (λ (j : JobRecord). j.number) js
+use Rattle.broadcast.specs.OfNumbers.{turn}
+use Rattle.broadcast.specs.OneJob.{numbers_in}
+use Rattle.broadcast.proofs.OfNumbersLemmas.{not_before}
+use Rattle.std.specs.Option.{unwrap_or}
+use Rattle.std.proofs.lemmas.List.{get_or-map, length-map}
+use Rattle.std.proofs.lemmas.Option.{slice_get-get_or, slice_get_within}
 
 pub numbers_rise : (js : List JobRecord) → AreJobs js → IsStrictlySortedBy nat_cmp (numbers_in js)
 unfolding IsStrictlySortedBy
@@ -32,3 +35,12 @@ known_among (j ∷ js) a is = by (nat_eq j.number a) refl (known_among js a) is
         → is_some {T = KnownJob} (cond b (Some (record { job = j; ended = false })) (job_of (as_known js) a)) ≡ true → (nat_eq a j.number || has_number a (numbers_in js)) ≡ true
     by true t rest is = or_left (nat_eq a j.number) (has_number a (numbers_in js)) (eq_turned a j.number ∙ t)
     by false f rest is = or_right (nat_eq a j.number) (has_number a (numbers_in js)) (rest is)
+
+-- each has its turn
+pub job_turn : (js : List JobRecord) (k : ℕ) (j : JobRecord) (n : ℕ) → AreJobs js → slice_get js k ≡ Some j → n ≡ j.number → (k < length (numbers_in js)) × (turn k (numbers_in js) ≡ Some n)
+job_turn js k j n sound is number =
+    let within = slice_get_within js k j is in
+    let next : k < length (numbers_in js) = omega (arith, within, length-map js (λ (j : JobRecord). j.number)) in
+    let read : Some (get_or js k j) ≡ Some j = sym (slice_get-get_or js k j within) ∙ is in
+    let at : get_or (numbers_in js) k 0 ≡ n = get_or-map (λ (j : JobRecord). j.number) js k j 0 within ∙ ap (λ (o : Option JobRecord). (unwrap_or o j).number) read ∙ sym number in
+    (next, ap (λ b. cond b None (Some (get_or (numbers_in js) k 0))) (not_before (numbers_in js) k 0 (numbers_rise js sound) next) ∙ ap (λ n. Some n) at)

@@ -3,6 +3,7 @@ use Rattle.std.specs.Prelude.{◌≡◌, ℕ, ◌<◌, true, false, cond, nat_eq
 use Rattle.std.specs.List.{AllByRecursion}
 use Rattle.std.specs.Ordering.{nat_cmp}
 use Rattle.std.specs.FinMap.Entries.{is_sorted}
+use Rattle.fuxi_terms.specs.Cluster.{JobRecord}
 use Rattle.fuxi_terms.specs.Counts.{count}
 use Rattle.fuxi_terms.specs.Keys.{Spot, spot_cmp, key_cmp}
 use Rattle.fuxi_terms.specs.Numbers.{has_number}
@@ -70,6 +71,10 @@ numbers_of news a counts = reported_numbers (machines_of news a) ++ (counts ++ c
 abbrev pub named_job : Option AppNo → List ℕ
 named_job None = []
 named_job (Some n) = n.0 ∷ []
+
+-- the jobs of a table
+abbrev pub numbers_in : List JobRecord → List ℕ
+numbers_in js = map (λ (j : JobRecord). j.number) js
 
 -- an application is shown an earlier map, which these counts take to that of the table
 pub record JobIsBefore (t : TableRecord) (news : News) (now : List ℕ) (a : ℕ) (counts : List (Key × ℕ)) (d : App) : Type 0 where

@@ -16,6 +16,10 @@ use Rattle.fuxi_terms.specs.NumbersSet.{numbers_set}
 abbrev pub number_of : RowNumber → RowKey × ℕ
 number_of n = (row_key n.app.0 n.unit.0 n.size.q, n.count)
 
+-- that stands with the number of its machine
+abbrev pub numbered : ℕ × RowNumber → RowKey × ℕ
+numbered e = number_of e.1
+
 -- grants under a head with these numbers: a new head drops what was credited first
 abbrev pub grants_set : TallyRecord → ℕ → List (Key × ℕ) → TallyRecord
 grants_set t boot ns = record { head = boot; entries = numbers_set key_cmp (staying credited_what t boot) ns }

@@ -1,16 +1,21 @@
 -- The numbers of a machine's row at the spots that were touched.
-use Rattle.std.specs.Prelude.{ℕ, ◌≤◌, IsTrue, Bool, nat_eq, nat_lt, ◌&&◌, List, length, map, filter}
+use Rattle.std.specs.Prelude.{◌≡◌, ℕ, ◌≤◌, IsTrue, Bool, nat_eq, nat_lt, ◌&&◌, List, [], ◌∷◌, length, map, filter, Option, Some, None, slice_get}
 use Rattle.std.specs.List.{AllByRecursion}
 use Rattle.fuxi_terms.specs.Counts.{count, joined}
 use Rattle.fuxi_terms.specs.Jobs.{unit_count}
 use Rattle.fuxi_terms.specs.Keys.{RowKey, row_cmp, Spot, spot_cmp}
 use Rattle.fuxi_terms.specs.Limits.{most_entries}
-use Rattle.fuxi_terms.specs.Rows.{is_row_key, greatest_row}
+use Rattle.fuxi_terms.specs.Rows.{is_row_key, greatest_row, IsRow, patched_row}
 use Rattle.written_roles.specs.MasterSteps.{spot_row_key}
 use Rattle.grant_table.specs.GrantTables.{TableRecord, as_known}
 use Rattle.broadcast.specs.declared.machine_row.RowNumber.{RowNumber}
-use Rattle.fuxi_terms.specs.NumbersSet.{AreNumbers}
-use Rattle.broadcast.specs.Shown.{number_of}
+use Rattle.fuxi_terms.specs.NumbersSet.{AreNumbers, numbers_set}
+use Rattle.schedule_unit.specs.declared.party.MachineNo.{MachineNo}
+use Rattle.written_net.specs.Ledgers.{row_ledger}
+use Rattle.core_side.specs.Bodies.{report_of}
+use Rattle.broadcast.specs.Shown.{number_of, Shows}
+use Rattle.broadcast.specs.AllShown.{Down, is_machine}
+use Rattle.broadcast.specs.OfNumbers.{of_number}
 
 -- the spot is of an admitted unit, on this machine
 abbrev pub is_touched : TableRecord → ℕ → Spot → Bool
@@ -41,3 +46,16 @@ pub record MayBeSet (row numbers : List (RowKey × ℕ)) : Type 0 where
   pub keys : AllByRecursion (λ n. IsTrue (is_row_key n.0)) numbers
   pub together : length (joined row_cmp row numbers) ≤ most_entries
   pub few : length numbers ≤ most_entries
+
+-- the machine that may be named
+abbrev pub named_machine : Option MachineNo → List ℕ
+named_machine None = []
+named_machine (Some n) = n.0 ∷ []
+
+-- so may the numbers of each machine in the row that its agent was shown
+abbrev pub AreSettable : List (ℕ × RowNumber) → List Down → Type 0
+AreSettable numbers sides = (m : ℕ) (d : Down) → slice_get sides m ≡ Some d → MayBeSet d.outgoing.present (map number_of (of_number m numbers))
+
+-- an agent is shown its row with the numbers of its machine
+abbrev pub IsRowShown : Option MachineNo → List (ℕ × RowNumber) → ℕ → Down → Down → Type 0
+IsRowShown forced numbers m d e = Shows [] patched_row IsRow row_ledger report_of (is_machine forced m) (numbers_set row_cmp d.outgoing.present (map number_of (of_number m numbers))) d e

@@ -1,26 +1,24 @@
 //! Grants, by job.
 
-ghost use Rattle.std.specs.Prelude.{◌≡◌, ◌<◌, ◌^◌, ◌||◌, ◌++◌, [], true, false, nat_eq, ℕ, T, List, Some, None, map, slice_get, IfOk, OnOk};
+ghost use Rattle.std.specs.Prelude.{◌≡◌, ◌<◌, ◌≤◌, ◌^◌, ◌++◌, [], ◌∷◌, true, nat_eq, ℕ, T, List, Some, None, length, map, slice_get, IfOk, OnOk};
 ghost use Rattle.std.specs.Ordering.{nat_cmp};
-ghost use Rattle.std.specs.List.Sorted.{IsNonDecreasingBy, IsStrictlySortedBy};
+ghost use Rattle.std.specs.List.Sorted.{IsNonDecreasingBy};
 ghost use Rattle.std.specs.FinMap.Entries.{is_sorted};
 ghost use Rattle.schedule_unit.specs.declared.party.MachineNo.{MachineNo as MachineSeen};
 ghost use Rattle.std.specs.List.{AllByRecursion};
-ghost use Rattle.fuxi_terms.specs.Jobs.{is_known};
-ghost use Rattle.fuxi_terms.specs.Numbers.{has_number};
 ghost use Rattle.fuxi_terms.specs.Counts.{count};
 ghost use Rattle.fuxi_terms.specs.Keys.{key_cmp, spot_cmp};
 ghost use Rattle.fuxi_terms.specs.TallyKeys.{reported_key, count_key, greatest_grant, credited_what};
 ghost use Rattle.fuxi_terms.specs.NumbersSet.{AreNumbers};
-ghost use Rattle.grant_table.specs.GrantTables.{TableRecord, as_known};
+ghost use Rattle.grant_table.specs.GrantTables.{TableRecord};
 ghost use Rattle.broadcast.specs.AllShown.{App, spot_of, is_job, AreInOrder, GrantsAreBefore, ShowsGrants, ShowsAllGrants, HaveRoom, HaveJobs};
-ghost use Rattle.broadcast.specs.OfNumbers.{of_number, AreReached};
+ghost use Rattle.broadcast.specs.OfNumbers.{of_number, turns, AreReached};
 ghost use Rattle.broadcast.specs.TouchedNumbers.{has_place};
-ghost use Rattle.broadcast.specs.OneJob.{counts_at, under_job, IsNotOf, AreNumbersOf, IsNews, machines_of, reported_now, reported_numbers, credited_to, numbers_of, named_job, JobIsBefore, SlotIsShown, IsSlotShown};
+ghost use Rattle.broadcast.specs.OneJob.{counts_at, under_job, AreNumbersOf, IsNews, machines_of, reported_now, reported_numbers, credited_to, numbers_of, named_job, numbers_in, JobIsBefore, SlotIsShown, IsSlotShown};
 
 use crate::job_grants::show_grants;
 use crate::law;
-use crate::numbered::{numbers_of, put_in_order, run_of};
+use crate::numbered::{run_of, turn};
 use crate::spots::has_place;
 use core_side::Side;
 use fuxi_terms::limits::MOST_MACHINES;
@@ -85,28 +83,31 @@ pub fn show_all_grants(
         return show_named(apps, alloc, news);
     }
     let counts = counts_at(alloc, table, spots)?;
-    let jobs = jobs_due(alloc, &counts, news, table)?;
-    show_jobs(apps, alloc, &jobs, &counts, news)
+    if news.reported.is_some() {
+        return show_known(apps, alloc, table, &counts, news);
+    }
+    show_changed(apps, alloc, &counts, news)
 }
 
-// Shows the applications of these jobs their grants. The numbers of one after another lie in one place.
-fn show_jobs(
+// Shows the applications of all jobs of the table, from the first on, their grants: none but these has an application.
+fn show_known(
     apps: &mut Vec<Option<Side<Grants, Demand>>>,
     alloc: Global,
-    jobs: &[usize],
+    table: &GrantTable,
     counts: &[(usize, (Key, u64))],
     news: &News,
 ) -> Result<(), OutOfMemory>
     requires room { HaveRoom apps.old.items }
-    requires rising { IsStrictlySortedBy nat_cmp jobs.now }
     requires order { IsNonDecreasingBy (λ e. e.0) counts.now }
     requires counts { (a : ℕ) → AreNumbersOf 2 (of_number a counts.now) }
     requires news { IsNews news.now }
-    ensures { OnOk result (AreReached (IsSlotShown counts.now news.now) jobs.now apps.old.items apps.new.items) }
+    ensures { OnOk result (AreReached (IsSlotShown counts.now news.now) (numbers_in table.now.jobs) apps.old.items apps.new.items) }
 {
+    let _cluster = table.cluster();
+    let jobs = table.jobs();
     let mut numbers = Vec::new(alloc);
-    for job in jobs {
-        let app = *job;
+    for index in 0..jobs {
+        let app = table.job(index).app().0 as usize;
         if app >= apps.len() {
             continue;
         }
@@ -115,14 +116,71 @@ fn show_jobs(
     Ok(())
 }
 
-// Whether no grant changed, and all that the news bring is of one job: so it is at most steps.
+// Shows the applications of the jobs with counts and of those of the news their grants: where no machine is reported, no other grants can
+// have changed.
+fn show_changed(
+    apps: &mut Vec<Option<Side<Grants, Demand>>>,
+    alloc: Global,
+    counts: &[(usize, (Key, u64))],
+    news: &News,
+) -> Result<(), OutOfMemory>
+    requires room { HaveRoom apps.old.items }
+    requires order { IsNonDecreasingBy (λ e. e.0) counts.now }
+    requires counts { (a : ℕ) → AreNumbersOf 2 (of_number a counts.now) }
+    requires news { IsNews news.now }
+    ensures { OnOk result (AreReached (IsSlotShown counts.now news.now) (turns counts.now (named_job news.now.admitted ++ named_job news.now.job)) apps.old.items apps.new.items) }
+{
+    let Some(admitted) = news.admitted else {
+        return match news.job {
+            Some(job) => show_jobs(apps, alloc, counts, &[job.0 as usize], news),
+            None => show_jobs(apps, alloc, counts, &[], news),
+        };
+    };
+    match news.job {
+        Some(job) => {
+            let others = [admitted.0 as usize, job.0 as usize];
+            show_jobs(apps, alloc, counts, &others, news)
+        }
+        None => show_jobs(apps, alloc, counts, &[admitted.0 as usize], news),
+    }
+}
+
+// Shows the applications of the jobs with counts, and of these others, their grants. The numbers of one after another lie in one place.
+fn show_jobs(
+    apps: &mut Vec<Option<Side<Grants, Demand>>>,
+    alloc: Global,
+    counts: &[(usize, (Key, u64))],
+    others: &[usize],
+    news: &News,
+) -> Result<(), OutOfMemory>
+    requires room { HaveRoom apps.old.items }
+    requires order { IsNonDecreasingBy (λ e. e.0) counts.now }
+    requires counts { (a : ℕ) → AreNumbersOf 2 (of_number a counts.now) }
+    requires news { IsNews news.now }
+    requires few { length others.now ≤ 2 }
+    ensures { OnOk result (AreReached (IsSlotShown counts.now news.now) (turns counts.now others.now) apps.old.items apps.new.items) }
+{
+    let mut numbers = Vec::new(alloc);
+    for index in 0..counts.len() + others.len() {
+        let Some(app) = turn(counts, others, index) else {
+            continue;
+        };
+        if app >= apps.len() {
+            continue;
+        }
+        show_slot(&mut apps[app], alloc, app, counts, news, &mut numbers)?;
+    }
+    Ok(())
+}
+
+// Whether no grant changed, and all that the news bring is of one job: then nothing but its boot and what is credited to it can have changed.
 fn is_quiet(spots: &[Pick], news: &News) -> bool
     ensures narrow { result ≡ true → (spots.now ≡ []) × ((news.now.reported ≡ None) × (news.now.admitted ≡ None)) }
 {
     spots.is_empty() && news.reported.is_none() && news.admitted.is_none()
 }
 
-// Shows the application of the job of the news its grants, with the counts that it has. No list is made of one job.
+// Shows the application of the job of the news its grants, with the counts that it has.
 fn show_named(
     apps: &mut Vec<Option<Side<Grants, Demand>>>,
     alloc: Global,
@@ -133,56 +191,27 @@ fn show_named(
     ensures { OnOk result (AreReached (IsSlotShown [] news.now) (named_job news.now.job) apps.old.items apps.new.items) }
 {
     match news.job {
-        Some(job) => show_jobs(apps, alloc, &[job.0 as usize], &[], news),
+        Some(job) => show_alone(apps, alloc, job.0 as usize, news),
         None => Ok(()),
     }
 }
 
-// The jobs with counts and those of the news: no other grants can have changed. Where a machine is reported, all of the table.
-fn jobs_due(
+// Shows the application of one job its grants, with the counts that it has.
+fn show_alone(
+    apps: &mut Vec<Option<Side<Grants, Demand>>>,
     alloc: Global,
-    counts: &[(usize, (Key, u64))],
+    app: usize,
     news: &News,
-    table: &GrantTable,
-) -> Result<Vec<usize>, AllocError>
-    ensures rising { IfOk result (λ due. IsStrictlySortedBy nat_cmp due.items) }
-    ensures all { IfOk result (λ due. (a : ℕ) → is_known (as_known table.now.jobs) a ≡ true → has_number a due.items ≡ false → (has_number a (map (λ e. e.0) counts.now) ≡ false) × IsNotOf news.now a) }
+) -> Result<(), OutOfMemory>
+    requires room { HaveRoom apps.old.items }
+    requires news { IsNews news.now }
+    ensures { OnOk result (AreReached (IsSlotShown [] news.now) (app ∷ []) apps.old.items apps.new.items) }
 {
-    if news.reported.is_some() {
-        return all_jobs(alloc, table);
+    if app >= apps.len() {
+        return Ok(());
     }
-    let mut due = numbers_of(alloc, counts)?;
-    put_job(&mut due, news.admitted)?;
-    put_job(&mut due, news.job)?;
-    put_in_order(&mut due);
-    Ok(due)
-}
-
-// All jobs of the table, from the first on: none but these has an application.
-fn all_jobs(alloc: Global, table: &GrantTable) -> Result<Vec<usize>, AllocError>
-    ensures rising { IfOk result (λ all. IsStrictlySortedBy nat_cmp all.items) }
-    ensures all { IfOk result (λ all. (a : ℕ) → is_known (as_known table.now.jobs) a ≡ true → has_number a all.items ≡ true) }
-{
-    let _cluster = table.cluster();
-    let jobs = table.jobs();
-    let mut all = Vec::with_capacity(alloc, jobs as usize)?;
-    for index in 0..jobs {
-        all.push(table.job(index).app().0 as usize)?;
-    }
-    Ok(all)
-}
-
-// A job more, where there is one.
-fn put_job(jobs: &mut Vec<usize>, job: Option<AppNo>) -> Result<(), AllocError>
-    ensures { OnOk result ((a : ℕ) → has_number a jobs.new.items ≡ (has_number a jobs.old.items || is_job job a)) }
-{
-    match job {
-        Some(job) => {
-            jobs.push(job.0 as usize)?;
-            Ok(())
-        }
-        None => Ok(()),
-    }
+    let mut numbers = Vec::new(alloc);
+    show_slot(&mut apps[app], alloc, app, &[], news, &mut numbers)
 }
 
 // Shows the application of a slot its grants, where there is one. The numbers lie in a place that is lent to one after another.

@@ -9,7 +9,7 @@ ghost use Rattle.party_ledgers.specs.Joins.{no_join};
 ghost use Rattle.written_net.specs.Ledgers.{row_ledger};
 ghost use Rattle.core_side.specs.Bodies.{report_of};
 ghost use Rattle.fuxi_terms.specs.NumbersSet.{numbers_set, moves, AreNumbers};
-ghost use Rattle.broadcast.specs.Shown.{number_of, Shows};
+ghost use Rattle.broadcast.specs.Shown.{numbered, Shows};
 
 use core_side::Side;
 use ledger_law::OutOfMemory;
@@ -28,22 +28,22 @@ pub(crate) struct RowNumber {
     pub(crate) count: u32,
 }
 
-/// From now on the row has these numbers at these keys, which rise. Where nothing differs and it is not forced, nothing is posted.
+/// From now on the row has these numbers at these keys, which rise; each stands with the number of its machine. Where nothing differs and it is not forced, nothing is posted.
 /// The keys of the row and of the numbers are together at most 2,048, and the last index is below 2^62.
 ///
 /// Want of memory leaves all as it was.
 pub(crate) fn show_row(
     side: &mut Side<RowLedger, JoinLedger>,
     alloc: Global,
-    numbers: &[RowNumber],
+    numbers: &[(usize, RowNumber)],
     forced: bool,
 ) -> Result<(), OutOfMemory>
     requires last { side.old.outgoing.last < 2 ^ 62 }
-    requires numbers { AreNumbers row_cmp greatest_row (map number_of numbers.now) }
-    requires keys { AllByRecursion (λ n. IsTrue (is_row_key n.0)) (map number_of numbers.now) }
-    requires together { length (joined row_cmp side.old.outgoing.present (map number_of numbers.now)) ≤ most_entries }
+    requires numbers { AreNumbers row_cmp greatest_row (map numbered numbers.now) }
+    requires keys { AllByRecursion (λ n. IsTrue (is_row_key n.0)) (map numbered numbers.now) }
+    requires together { length (joined row_cmp side.old.outgoing.present (map numbered numbers.now)) ≤ most_entries }
     requires few { length numbers.now ≤ most_entries }
-    ensures shows { OnOk result (Shows [] patched_row IsRow row_ledger report_of forced (numbers_set row_cmp side.old.outgoing.present (map number_of numbers.now)) side.old side.new) }
+    ensures shows { OnOk result (Shows [] patched_row IsRow row_ledger report_of forced (numbers_set row_cmp side.old.outgoing.present (map numbered numbers.now)) side.old side.new) }
     ensures err { OnErr result (side.new ≡ side.old) }
 {
     let _entries = side.sent().len();
@@ -67,15 +67,16 @@ fn is_due(forced: bool, change: &RowChange) -> bool
 fn row_change(
     alloc: Global,
     row: &RowLedger,
-    numbers: &[RowNumber],
+    numbers: &[(usize, RowNumber)],
 ) -> Result<RowChange, OutOfMemory>
-    requires numbers { AreNumbers row_cmp greatest_row (map number_of numbers.now) }
-    requires keys { AllByRecursion (λ n. IsTrue (is_row_key n.0)) (map number_of numbers.now) }
-    ensures { IfOk result (λ change. change ≡ moves row_cmp row.now (map number_of numbers.now)) }
+    requires numbers { AreNumbers row_cmp greatest_row (map numbered numbers.now) }
+    requires keys { AllByRecursion (λ n. IsTrue (is_row_key n.0)) (map numbered numbers.now) }
+    ensures { IfOk result (λ change. change ≡ moves row_cmp row.now (map numbered numbers.now)) }
 {
     let _len = row.len();
     let mut change = RowChange::new(alloc);
-    for number in numbers {
+    for entry in numbers {
+        let number = &entry.1;
         let before = row.count(number.app, number.unit, &number.size);
         if before == number.count {
             continue;

@@ -1,60 +1,61 @@
 //! Entries by the number of a job or a machine.
 
-ghost use Rattle.std.specs.Prelude.{◌≡◌, ◌++◌, ℕ, nat_eq, map, filter, IfOk};
+ghost use Rattle.std.specs.Prelude.{◌≡◌, ◌+◌, ◌<◌, true, not, nat_eq, length, map, filter, get_or, take};
 ghost use Rattle.fuxi_terms.specs.Numbers.{has_number};
-ghost use Rattle.std.specs.List.Sorted.{IsNonDecreasingBy, IsStrictlySortedBy};
-ghost use Rattle.std.specs.Ordering.{nat_cmp};
-ghost use Rattle.broadcast.specs.OfNumbers.{of_number};
+ghost use Rattle.std.specs.List.Sorted.{IsNonDecreasingBy};
+ghost use Rattle.broadcast.specs.OfNumbers.{turn, turns};
 
-use std::alloc::{AllocError, Global};
-
-// The numbers of the entries and these others, each once, from the least on.
-pub(crate) fn each_once<T: Copy>(
-    alloc: Global,
-    entries: &[(usize, T)],
-    others: &[usize],
-) -> Result<Vec<usize>, AllocError>
-    ensures rising { IfOk result (λ once. IsStrictlySortedBy nat_cmp once.items) }
-    ensures same { IfOk result (λ once. (n : ℕ) → has_number n once.items ≡ has_number n (map (λ e. e.0) entries.now ++ others.now)) }
+// Whether the entries stand in the order of their numbers.
+pub(crate) fn are_rising<T: Copy>(entries: &[(usize, T)]) -> bool
+    ensures { result ≡ true → IsNonDecreasingBy (λ e. e.0) entries.now }
 {
-    let mut numbers = numbers_of(alloc, entries)?;
-    numbers.extend_from_slice(others)?;
-    put_in_order(&mut numbers);
-    Ok(numbers)
+    for index in 1..entries.len() {
+        if entries[index].0 < entries[index - 1].0 {
+            return false;
+        }
+    }
+    true
 }
 
-// Numbers, each once, from the least on.
-pub(crate) fn put_in_order(numbers: &mut Vec<usize>)
-    ensures rising { IsStrictlySortedBy nat_cmp numbers.new.items }
-    ensures same { (n : ℕ) → has_number n numbers.new.items ≡ has_number n numbers.old.items }
+// The number whose turn it is: the numbers of the entries come first, and then the others. None where it had its turn before.
+pub(crate) fn turn<T: Copy>(entries: &[(usize, T)], others: &[usize], index: usize) -> Option<usize>
+    requires rising { IsNonDecreasingBy (λ e. e.0) entries.now }
+    requires within { index < length entries.now + length others.now }
+    ensures { result ≡ turn index (turns entries.now others.now) }
 {
-    numbers.sort_unstable();
-    numbers.dedup();
+    let len = entries.len();
+    if index < len {
+        let first = is_first(entries, index);
+        return first.then_some(entries[index].0);
+    }
+    let number = others[index - len];
+    if has_number(entries, number) {
+        return None;
+    }
+    if others[..index - len].contains(&number) {
+        return None;
+    }
+    Some(number)
 }
 
-// The number of each entry.
-pub(crate) fn numbers_of<T: Copy>(
-    alloc: Global,
-    entries: &[(usize, T)],
-) -> Result<Vec<usize>, AllocError>
-    ensures { IfOk result (λ numbers. numbers.items ≡ map (λ e. e.0) entries.now) }
+// Whether no entry before this one has its number.
+fn is_first<T: Copy>(entries: &[(usize, T)], index: usize) -> bool
+    requires rising { IsNonDecreasingBy (λ e. e.0) entries.now }
+    requires within { index < length entries.now }
+    ensures { result ≡ not (has_number (get_or (map (λ e. e.0) entries.now) index 0) (take index (map (λ e. e.0) entries.now))) }
 {
-    entries.iter().map(|entry| entry.0).collect(alloc)
+    if index == 0 {
+        return true;
+    }
+    entries[index - 1].0 < entries[index].0
 }
 
-// What the entries with this number have.
-pub(crate) fn of_number<T: Copy>(
-    alloc: Global,
-    entries: &[(usize, T)],
-    number: usize,
-) -> Result<Vec<T>, AllocError>
+// Whether an entry has this number.
+fn has_number<T: Copy>(entries: &[(usize, T)], number: usize) -> bool
     requires { IsNonDecreasingBy (λ e. e.0) entries.now }
-    ensures { IfOk result (λ items. items.items ≡ of_number number entries.now) }
+    ensures { result ≡ has_number number (map (λ e. e.0) entries.now) }
 {
-    run_of(entries, number)
-        .iter()
-        .map(|entry| entry.1)
-        .collect(alloc)
+    !run_of(entries, number).is_empty()
 }
 
 // The entries with this number, which stand side by side.

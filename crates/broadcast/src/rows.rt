@@ -1,10 +1,8 @@
 //! Rows, by machine.
 
-ghost use Rattle.std.specs.Prelude.{◌≡◌, ◌<◌, ◌^◌, ◌||◌, true, ℕ, [], length, map, None, IfOk, OnOk};
+ghost use Rattle.std.specs.Prelude.{◌≡◌, ◌<◌, ◌≤◌, ◌^◌, true, ℕ, [], length, map, None, IfOk, OnOk};
 ghost use Rattle.std.specs.List.{AllByRecursion};
-ghost use Rattle.std.specs.List.Sorted.{IsNonDecreasingBy, IsStrictlySortedBy};
-ghost use Rattle.std.specs.Ordering.{nat_cmp};
-ghost use Rattle.fuxi_terms.specs.Numbers.{has_number};
+ghost use Rattle.std.specs.List.Sorted.{IsNonDecreasingBy};
 ghost use Rattle.fuxi_terms.specs.Keys.{row_cmp};
 ghost use Rattle.fuxi_terms.specs.NumbersSet.{numbers_set};
 ghost use Rattle.fuxi_terms.specs.Rows.{IsRow, patched_row};
@@ -12,12 +10,12 @@ ghost use Rattle.written_net.specs.Ledgers.{row_ledger};
 ghost use Rattle.core_side.specs.Bodies.{report_of};
 ghost use Rattle.broadcast.specs.Shown.{number_of, Shows};
 ghost use Rattle.broadcast.specs.AllShown.{Down, spot_of, is_machine, AreInOrder, RowsAreBefore, ShowsRows};
-ghost use Rattle.broadcast.specs.OfNumbers.{of_number};
-ghost use Rattle.broadcast.specs.TouchedNumbers.{has_place, number_at, with_key, touched_in, touched_on, MayBeSet};
+ghost use Rattle.broadcast.specs.OfNumbers.{of_number, turns, AreReached};
+ghost use Rattle.broadcast.specs.TouchedNumbers.{has_place, number_at, with_key, touched_in, touched_on, named_machine, MayBeSet, AreSettable, IsRowShown};
 
 use crate::law;
 use crate::machine_row::{RowNumber, show_row};
-use crate::numbered::{each_once, of_number};
+use crate::numbered::{are_rising, run_of, turn};
 use crate::spots::has_place;
 use core_side::Side;
 use fuxi_terms::OutOfMemory;
@@ -50,22 +48,58 @@ pub fn show_all_rows(
         return Ok(());
     }
     let numbers = by_machine(alloc, table, spots)?;
-    let machines = machines_due(alloc, &numbers, forced)?;
-    for machine in &machines {
-        let at = *machine;
-        if at >= sides.len() {
-            continue;
-        }
-        show_one(&mut sides[at], alloc, at, &numbers, forced)?;
-    }
-    Ok(())
+    show_named(sides, alloc, &numbers, forced)
 }
 
-// Whether no grant changed, and no row is forced: so it is at most steps.
+// Whether no grant changed, and no row is forced: then no row can have changed, and none has to be posted.
 fn is_quiet(spots: &[Pick], forced: Option<MachineNo>) -> bool
     ensures narrow { result ≡ true → (spots.now ≡ []) × (forced ≡ None) }
 {
     spots.is_empty() && forced.is_none()
+}
+
+// Shows the agents of the machines with numbers, and of one that is forced, their rows: no other row can have changed.
+fn show_named(
+    sides: &mut Vec<Side<RowLedger, JoinLedger>>,
+    alloc: Global,
+    numbers: &[(usize, RowNumber)],
+    forced: Option<MachineNo>,
+) -> Result<(), OutOfMemory>
+    requires last { AllByRecursion (λ (d : Down). d.outgoing.last < 2 ^ 62) sides.old.items }
+    requires rising { IsNonDecreasingBy (λ e. e.0) numbers.now }
+    requires set { AreSettable numbers.now sides.old.items }
+    ensures { OnOk result (AreReached (IsRowShown forced numbers.now) (turns numbers.now (named_machine forced)) sides.old.items sides.new.items) }
+{
+    match forced {
+        Some(machine) => show_machines(sides, alloc, numbers, &[machine.0 as usize], forced),
+        None => show_machines(sides, alloc, numbers, &[], forced),
+    }
+}
+
+// Shows the agents of the machines with numbers, and of these others, their rows. No list is made of them.
+fn show_machines(
+    sides: &mut Vec<Side<RowLedger, JoinLedger>>,
+    alloc: Global,
+    numbers: &[(usize, RowNumber)],
+    others: &[usize],
+    forced: Option<MachineNo>,
+) -> Result<(), OutOfMemory>
+    requires last { AllByRecursion (λ (d : Down). d.outgoing.last < 2 ^ 62) sides.old.items }
+    requires rising { IsNonDecreasingBy (λ e. e.0) numbers.now }
+    requires set { AreSettable numbers.now sides.old.items }
+    requires few { length others.now ≤ 1 }
+    ensures { OnOk result (AreReached (IsRowShown forced numbers.now) (turns numbers.now others.now) sides.old.items sides.new.items) }
+{
+    for index in 0..numbers.len() + others.len() {
+        let Some(at) = turn(numbers, others, index) else {
+            continue;
+        };
+        if at >= sides.len() {
+            continue;
+        }
+        show_one(&mut sides[at], alloc, at, numbers, forced)?;
+    }
+    Ok(())
 }
 
 // Shows an agent its row with the numbers of its machine.
@@ -81,23 +115,7 @@ fn show_one(
     requires set { MayBeSet side.old.outgoing.present (map number_of (of_number at numbers.now)) }
     ensures { OnOk result (Shows [] patched_row IsRow row_ledger report_of (is_machine forced at) (numbers_set row_cmp side.old.outgoing.present (map number_of (of_number at numbers.now))) side.old side.new) }
 {
-    let row = of_number(alloc, numbers, at)?;
-    show_row(side, alloc, &row, is_machine(forced, at))
-}
-
-// The machines with numbers, and one that is forced: no other row can have changed.
-fn machines_due(
-    alloc: Global,
-    numbers: &[(usize, RowNumber)],
-    forced: Option<MachineNo>,
-) -> Result<Vec<usize>, AllocError>
-    ensures rising { IfOk result (λ due. IsStrictlySortedBy nat_cmp due.items) }
-    ensures all { IfOk result (λ due. (m : ℕ) → has_number m due.items ≡ (has_number m (map (λ e. e.0) numbers.now) || is_machine forced m)) }
-{
-    match forced {
-        Some(machine) => each_once(alloc, numbers, &[machine.0 as usize]),
-        None => each_once(alloc, numbers, &[]),
-    }
+    show_row(side, alloc, run_of(numbers, at), is_machine(forced, at))
 }
 
 // Whether it is the machine with this number.
@@ -120,6 +138,9 @@ fn by_machine(
     ensures each { IfOk result (λ numbers. (m : ℕ) → m < length table.now.cluster.machines → map number_of (of_number m numbers.items) ≡ touched_on table.now m (map spot_of spots.now)) }
 {
     let mut numbers = touched(alloc, table, spots)?;
+    if are_rising(&numbers) {
+        return Ok(numbers);
+    }
     numbers.sort_by_key(|number| number.0)?;
     Ok(numbers)
 }

@@ -1,8 +1,8 @@
 use Rattle.std.proofs.Common.{map, drop}
 use Rattle.fuxi_terms.specs.Keys.{row_cmp}
-use Rattle.broadcast.specs.Shown.{number_of}
+use Rattle.broadcast.specs.Shown.{numbered}
 use Rattle.fuxi_terms.proofs.MovesLemmas.{IsMovesTo}
 use Rattle.broadcast.proofs.machine_row.row_change.Given as goal
 
-abbrev pub invariant-loop-number : goal.invariant-loop-number
-invariant-loop-number l = IsMovesTo row_cmp l.row (map number_of l.numbers) (map number_of (drop l.number-index l.numbers)) l.change
+abbrev pub invariant-loop-entry : goal.invariant-loop-entry
+invariant-loop-entry l = IsMovesTo row_cmp l.row (map numbered l.numbers) (map numbered (drop l.entry-index l.numbers)) l.change

@@ -6,7 +6,7 @@ use Rattle.fuxi_terms.specs.Rows.{IsRow, patched_row}
 use Rattle.written_net.specs.Ledgers.{row_ledger}
 use Rattle.core_side.specs.Bodies.{report_of}
 use Rattle.fuxi_terms.specs.NumbersSet.{numbers_set, moves}
-use Rattle.broadcast.specs.Shown.{number_of}
+use Rattle.broadcast.specs.Shown.{numbered}
 use Rattle.fuxi_terms.proofs.NumbersSetLemmas.{moves_few}
 use Rattle.broadcast.proofs.RowSetLemmas.{row_is_set, row_differs}
 use Rattle.broadcast.proofs.ShownLemmas.{shown_posted, shown_kept, not_due_alone, due_alone}
@@ -16,7 +16,7 @@ pub returns-then-not-is_due-clause-shows : goal.returns-then-not-is_due-clause-s
 returns-then-not-is_due-clause-shows c =
     let old = c.args.side.now in
     let row = old.outgoing.present in
-    let ns = map number_of c.args.numbers.now in
+    let ns = map numbered c.args.numbers.now in
     let is_row : IsRow row = subst IsRow c.sent.ensures c.len-entries.ensures.row in
     let change : c.in_ok-change.change ≡ moves row_cmp row ns = c.in_ok-change.ensures ∙ ap (λ r. moves row_cmp r ns) c.sent-2.ensures in
     let none = not_due_alone c.args.forced c.in_ok-change.change (sym c.is_due.ensures ∙ c.if-not-is_due.true) in
@@ -27,7 +27,7 @@ returns-then-not-is_due-clause-shows c =
 pub post-requires-clause-leads : goal.post-requires-clause-leads
 post-requires-clause-leads c =
     let row = c.args.side.now.outgoing.present in
-    let ns = map number_of c.args.numbers.now in
+    let ns = map numbered c.args.numbers.now in
     let is_row : IsRow row = subst IsRow c.sent.ensures c.len-entries.ensures.row in
     let change : c.in_ok-change.change ≡ moves row_cmp row ns = c.in_ok-change.ensures ∙ ap (λ r. moves row_cmp r ns) c.sent-2.ensures in
     let leads : patched_row row c.in_ok-change.change ≡ Ok (numbers_set row_cmp row ns) = ap (patched_row row) change ∙ row_is_set row ns is_row c.requires.numbers c.requires.together in
@@ -35,15 +35,15 @@ post-requires-clause-leads c =
 
 pub post-requires-clause-form : goal.post-requires-clause-form
 post-requires-clause-form c =
-    let ns = map number_of c.args.numbers.now in
+    let ns = map numbered c.args.numbers.now in
     let few : length c.in_ok-change.change ≤ length ns = subst (λ cs. length cs ≤ length ns) (sym c.in_ok-change.ensures) (moves_few row_cmp c.sent-2.result.now ns) in
-    record { changes = c.len-len.ensures.changes; few = omega (arith, few, length-map c.args.numbers.now number_of, c.requires.few) }
+    record { changes = c.len-len.ensures.changes; few = omega (arith, few, length-map c.args.numbers.now numbered, c.requires.few) }
 
 pub returns-clause-shows : goal.returns-clause-shows
 returns-clause-shows c =
     let old = c.args.side.now in
     let row = old.outgoing.present in
-    let ns = map number_of c.args.numbers.now in
+    let ns = map numbered c.args.numbers.now in
     let e = c.in_ok-post.ensures in
     let is_row : IsRow row = subst IsRow c.sent.ensures c.len-entries.ensures.row in
     let change : c.in_ok-change.change ≡ moves row_cmp row ns = c.in_ok-change.ensures ∙ ap (λ r. moves row_cmp r ns) c.sent-2.ensures in
