@@ -15,9 +15,6 @@ use Rattle.ledger_law.specs.Shapes.{IsTally}
 use Rattle.party_ledgers.specs.declared.packets.Heard.{Heard}
 use Rattle.party_ledgers.specs.declared.packets.Body.TheVariants.{DemandDelta}
 use Rattle.party_ledgers.specs.declared.packets.Packet.{Packet}
-use Rattle.fuxi_terms.specs.Limits.{most_machines}
-use Rattle.party_ledgers.specs.Packets.{IsFormed, is_number_of, to_agent, to_app}
-use Rattle.schedule_unit.specs.declared.party.Role.TheVariants.{App as AsApp}
 use Rattle.written_net.specs.Net.{hear, is_taken}
 use Rattle.written_net.specs.Ledgers.{Ledger, nothing, at_key, TallyChange}
 use Rattle.written_net.specs.Channels.{master_id, app_id, dropped_by}
@@ -56,7 +53,7 @@ module _ (x : CoreRecord) (core : IsCore x) (a : ℕ) (old new : App) (packet : 
       numbers = core.near.kept.numbers;
       jobs = core.near.kept.jobs;
       agents = core.near.kept.agents;
-      apps = length_set x.apps a (Some new) ∙ core.near.kept.apps;
+      apps = λ b e. let lt = core.near.kept.apps b e in let wide = length_set x.apps a (Some new) in omega (arith, lt, wide);
       slots = each_set (λ b o. is_some o ≡ is_known x.known.jobs b) x.apps a (Some new) lt (sym known) (λ b o _ e. core.near.kept.slots b o e);
       size = core.near.kept.size;
       rising = core.near.kept.rising;
@@ -203,13 +200,3 @@ module _ (x : CoreRecord) (core : IsCore x) (a : ℕ) (old new : App) (packet : 
     hears = heard_alike;
     asks = IfSome_then change told (λ change was. changes_asked was.0 change was.1);
   }
-
--- the number of an application that sends
-pub app_number : (x : Packet) → IsFormed x → x.from.role ≡ AsApp → x.from.number < most_machines
-app_number x formed role =
-    let both = to_agent x.from.role x.to.role || to_app x.from.role x.to.role || to_agent x.to.role x.from.role || to_app x.to.role x.from.role in
-    let p = both_true (both && is_number_of x.from.role x.from.number && is_number_of x.to.role x.to.number) (nat_lt 0 x.from.inc) formed.parties in
-    let q = both_true (both && is_number_of x.from.role x.from.number) (is_number_of x.to.role x.to.number) p.0 in
-    let n = both_true both (is_number_of x.from.role x.from.number) q.0 in
-    let t : nat_lt x.from.number most_machines ≡ true = ap (λ r. is_number_of r x.from.number) (sym role) ∙ n.1 in
-    grind (arith, nat_tests, t)

@@ -243,13 +243,13 @@ module _ (x : CoreRecord) (near : IsNear x) (a : ℕ) (fresh taken live : Bool) 
   pub demanding_stands : StandsMid news moved (demanding fresh taken r a)
   demanding_stands = subst (λ (g : Ledger). StandsMid news moved (record { cluster = c; state = told_of M fresh taken (app_id a) (counted c M.jobs a g); sides = r.sides })) (sym (h.stands.apps a d at).got) told_stands
 
--- the slot of a job, as it was read
-pub slot_at : (x : CoreRecord) → IsKept x → (a : ℕ) → a < 256 → (o p : Option App) → o ≡ get_or x.apps a o → o ≡ p → slice_get x.apps a ≡ Some p
-slot_at x kept a small o p read is = slice_get_read x.apps 256 a o (sym kept.apps) small read ∙ ap Some is
+-- the slot of a known job, as it was read
+pub slot_at : (x : CoreRecord) → IsKept x → (a : ℕ) → is_known x.known.jobs a ≡ true → (o p : Option App) → o ≡ get_or x.apps a o → o ≡ p → slice_get x.apps a ≡ Some p
+slot_at x kept a known o p read is = slice_get_read x.apps (length x.apps) a o refl (kept.apps a known) read ∙ ap Some is
 
--- that of a known job is not empty
-pub slot_there : (x : CoreRecord) → IsKept x → (a : ℕ) → a < 256 → is_known x.known.jobs a ≡ true → (o : Option App) → o ≡ get_or x.apps a o → o ≡ None → ⊥
-slot_there x kept a small known o read is = let f : false ≡ true = kept.slots a None (slot_at x kept a small o None read is) ∙ known in cc
+-- it is not empty
+pub slot_there : (x : CoreRecord) → IsKept x → (a : ℕ) → is_known x.known.jobs a ≡ true → (o : Option App) → o ≡ get_or x.apps a o → o ≡ None → ⊥
+slot_there x kept a known o read is = let f : false ≡ true = kept.slots a None (slot_at x kept a known o None read is) ∙ known in cc
 
 -- where its demand counts still, a change that was taken of it names the keys at which it asks otherwise
 pub asked_live : (x : CoreRecord) (a : ℕ) (fresh taken live : Bool) (d : App) → slice_get x.apps a ≡ Some (Some d) → live ≡ (taken && (nat_eq d.incoming.received.head x.epoch && not (has_ended x.known.jobs a)))

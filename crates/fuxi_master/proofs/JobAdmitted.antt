@@ -1,10 +1,11 @@
 -- A job is admitted: its application is shown nothing yet.
-use Rattle.std.proofs.Common.{◌≡◌, ℕ, ◌<◌, ◌≤◌, Bool, true, false, cond, nat_eq, T, List, [], ◌∷◌, length, map, set, Option, Some, None, slice_get, refl, sym, ◌∙◌, ap, subst, arith}
-use Rattle.std.specs.Prelude.{is_some}
+use Rattle.std.proofs.Common.{◌≡◌, ℕ, zero, suc, ◌+◌, ◌-◌, ◌<◌, ◌≤◌, Bool, true, false, cond, nat_eq, T, List, [], ◌∷◌, ◌++◌, length, map, set, Option, Some, None, slice_get, refl, sym, ◌∙◌, ap, subst, arith}
+use Rattle.std.specs.Prelude.{is_some, replicate}
 use Rattle.std.specs.List.{AllByRecursion}
 use Rattle.std.specs.Option.{option_map}
 use Rattle.std.specs.Ordering.{nat_cmp}
 use Rattle.std.specs.FinMap.Entries.{is_sorted}
+use Rattle.std.proofs.lemmas.List.{append_assoc, length-append, length-replicate, replicate-append-replicate}
 use Rattle.fuxi_terms.specs.Cluster.{ClusterRecord, JobRecord, UnitRecord}
 use Rattle.fuxi_terms.specs.Counts.{count}
 use Rattle.fuxi_terms.specs.Jobs.{KnownJob, is_known, job_numbers, units_of, unit_count}
@@ -30,7 +31,7 @@ use Rattle.fuxi_terms.specs.NumbersSet.{numbers_set, AreNumbers}
 use Rattle.broadcast.specs.declared.grants.News.{News}
 use Rattle.broadcast.specs.AllShown.{App, IsBefore, ShowsJob, with_reported, is_job, credited_after}
 use Rattle.fuxi_master.specs.Cores.{CoreRecord, IsKept, IsCore, IsApp, StandsFor, IsWithin, IsWithinSoon}
-use Rattle.fuxi_master.specs.Commands.{changed_by, admitting}
+use Rattle.fuxi_master.specs.Commands.{changed_by, admitting, with_slots}
 use Rattle.fuxi_master.specs.Heard.{Changes}
 use Rattle.fuxi_master.specs.Steps.{IsMid, StandsMid}
 use Rattle.fuxi_master.proofs.Indexed.{each_set, length_set}
@@ -50,11 +51,35 @@ paired : (ms : List MachineNo) → map {B = ℕ × ℕ} (λ (m : MachineNo). (m.
 paired [] = refl
 paired (m ∷ ms) = ap (λ es. (m.0, 0) ∷ es) (paired ms)
 
+-- slots up to a number
+pub slots_wide : (n : ℕ) (slots : List (Option App)) → n ≤ length (with_slots n slots)
+slots_wide n slots =
+    let a = length-append slots (replicate (n - length slots) None) in
+    let r = length-replicate {A = Option App} (n - length slots) None in
+    omega (arith, a, r)
+
+slots_more : (n : ℕ) (slots : List (Option App)) → length slots ≤ length (with_slots n slots)
+slots_more n slots = let a = length-append slots (replicate (n - length slots) None) in omega (arith, a)
+
+-- an empty one more
+pub one_slot : (slots now after : List (Option App)) (n : ℕ) → now ≡ slots ++ replicate n None → after ≡ now ++ None ∷ [] → after ≡ slots ++ replicate (n + 1) None
+one_slot slots now after n so_far new =
+    new ∙ ap (λ os. os ++ None ∷ []) so_far ∙ append_assoc slots (replicate n None) (replicate 1 None) ∙ ap (λ os. slots ++ os) (replicate-append-replicate {A = Option App} n 1 None)
+
+-- what holds of each slot that was there, and of an empty one beyond
+each_slot : (Q : ℕ → Option App → Type 0) (slots : List (Option App)) (more : ℕ) → ((a : ℕ) (o : Option App) → slice_get slots a ≡ Some o → Q a o) → ((a : ℕ) → length slots ≤ a → Q a None)
+    → (a : ℕ) (o : Option App) → slice_get (slots ++ replicate more None) a ≡ Some o → Q a o
+each_slot Q [] zero old new a o e = cc
+each_slot Q [] (suc more) old new zero o e = let same : None ≡ o = cc in subst (Q 0) same (new 0 (omega arith))
+each_slot Q [] (suc more) old new (suc a) o e = each_slot (λ k. Q (suc k)) [] more (λ k p f. cc) (λ k le. new (suc k) (omega arith)) a o e
+each_slot Q (p ∷ slots) more old new zero o e = old 0 o e
+each_slot Q (p ∷ slots) more old new (suc a) o e = each_slot (λ k. Q (suc k)) slots more (λ k p f. old (suc k) p f) (λ k le. new (suc k) (omega (arith, le))) a o e
+
 -- with this allotment, and with this end of the channel with a new application
 abbrev pub admitted_at : CoreRecord → ℕ → AllotmentRecord → App → CoreRecord
-admitted_at x a z d = record x { allotment = z; apps = set x.apps a (Some d) }
+admitted_at x a z d = record x { allotment = z; apps = set (with_slots (a + 1) x.apps) a (Some d) }
 
-module _ (x : CoreRecord) (core : IsCore x) (sound : IsSound x.allotment.table) (j : JobRecord) (unknown : is_known x.known.jobs j.number ≡ false) (small : j.number < 256) (z : AllotmentRecord)
+module _ (x : CoreRecord) (core : IsCore x) (sound : IsSound x.allotment.table) (j : JobRecord) (unknown : is_known x.known.jobs j.number ≡ false) (z : AllotmentRecord)
     (stands : (c : ClusterRecord) (M : Master) → Allots x.allotment c M → Allots z c (record M { jobs = with_job j M.jobs })) (table : z.table ≡ record x.allotment.table { jobs = with_admitted j x.allotment.table.jobs })
     (touched : z.touched ≡ x.allotment.touched) (turns : z.placer.seen.turns ≡ x.allotment.placer.seen.turns) (d : App) (d_is : d ≡ new_endpoint empty_tally empty_tally x.epoch) (side : IsApp d x.epoch new_side) where
   abbrev kept : IsKept x
@@ -66,8 +91,11 @@ module _ (x : CoreRecord) (core : IsCore x) (sound : IsSound x.allotment.table) 
   abbrev new_jobs : List KnownJob
   new_jobs = as_known z.table.jobs
 
+  abbrev wider : List (Option App)
+  wider = with_slots (j.number + 1) x.apps
+
   abbrev slots : List (Option App)
-  slots = set x.apps j.number (Some d)
+  slots = set wider j.number (Some d)
 
   abbrev pub admitted_core : CoreRecord
   admitted_core = record x { known = record x.known { jobs = with_job j x.known.jobs }; allotment = z; apps = slots }
@@ -119,13 +147,38 @@ module _ (x : CoreRecord) (core : IsCore x) (sound : IsSound x.allotment.table) 
       other a u lt false e = refl
 
   -- the slots of the others are as before
-  here : j.number < length x.apps
-  here = let n = kept.apps in omega (arith, small, n)
+  here : j.number < length wider
+  here = let l = slots_wide (j.number + 1) x.apps in omega (arith, l)
 
   pub each_app : (Q : ℕ → App → Type 0) → Q j.number d → ((a : ℕ) (e : App) → nat_eq j.number a ≡ false → slice_get x.apps a ≡ Some (Some e) → Q a e) → (a : ℕ) (e : App) → slice_get slots a ≡ Some (Some e) → Q a e
-  each_app Q new others a e at = each_set {A = Option App} (λ k o. (e : App) → o ≡ Some e → Q k e) x.apps j.number (Some d) here
+  each_app Q new others a e at = each_set {A = Option App} (λ k o. (e : App) → o ≡ Some e → Q k e) wider j.number (Some d) here
       (λ e q. let same : d ≡ e = cc in subst (Q j.number) same new)
-      (λ k o off there e q. others k e off (there ∙ ap (λ (p : Option App). Some p) q)) a (Some e) at e refl
+      (λ k o off there e q. was k o there e off q) a (Some e) at e refl
+    where
+      was : (k : ℕ) (o : Option App) → slice_get wider k ≡ Some o → (e : App) → nat_eq j.number k ≡ false → o ≡ Some e → Q k e
+      was = each_slot (λ k o. (e : App) → nat_eq j.number k ≡ false → o ≡ Some e → Q k e) x.apps (j.number + 1 - length x.apps)
+          (λ k o there e off q. others k e off (there ∙ ap (λ (p : Option App). Some p) q)) (λ k le e off q. cc)
+
+  -- there is no known job beyond the slots
+  beyond : (a : ℕ) → length x.apps ≤ a → false ≡ is_known x.known.jobs a
+  beyond a le = by (is_known x.known.jobs a) refl
+    where
+      by : (b : Bool) → is_known x.known.jobs a ≡ b → false ≡ b
+      by true e = absurd (let lt = kept.apps a e in omega (arith, lt, le))
+      by false e = refl
+
+  slots_there : (a : ℕ) → is_known (with_job j x.known.jobs) a ≡ true → a < length slots
+  slots_there a e = by (nat_eq j.number a) refl
+    where
+      wide : length slots ≡ length wider
+      wide = length_set wider j.number (Some d)
+
+      by : (b : Bool) → nat_eq j.number a ≡ b → a < length slots
+      by true t = let same = number_is j.number a t in omega (arith, here, wide, same)
+      by false off =
+          let lt = kept.apps a (sym (ap is_some (behind_other j x.known.jobs a off)) ∙ e) in
+          let more = slots_more (j.number + 1) x.apps in
+          omega (arith, lt, more, wide)
 
   admitted_kept : IsKept admitted_core
   admitted_kept = record {
@@ -133,8 +186,9 @@ module _ (x : CoreRecord) (core : IsCore x) (sound : IsSound x.allotment.table) 
     numbers = numbers_same;
     jobs = records_same;
     agents = kept.agents ∙ sym machines_same;
-    apps = length_set x.apps j.number (Some d) ∙ kept.apps;
-    slots = each_set {A = Option App} (λ a o. is_some o ≡ is_known (with_job j x.known.jobs) a) x.apps j.number (Some d) here (sym (behind_there j x.known.jobs)) (λ a o off at. kept.slots a o at ∙ sym (ap is_some (behind_other j x.known.jobs a off)));
+    apps = slots_there;
+    slots = each_set {A = Option App} (λ a o. is_some o ≡ is_known (with_job j x.known.jobs) a) wider j.number (Some d) here (sym (behind_there j x.known.jobs))
+        (λ a o off at. each_slot (λ k p. is_some p ≡ is_known x.known.jobs k) x.apps (j.number + 1 - length x.apps) kept.slots beyond a o at ∙ sym (ap is_some (behind_other j x.known.jobs a off)));
     size = kept.size ∙ sym machines_same;
     rising = kept.rising;
     below = subst (λ n. AllByRecursion (λ m. m < n) x.reported.numbers) (sym machines_same) kept.below;

@@ -73,7 +73,7 @@ module _ (x : CoreRecord) (near : IsNear x) (sound : IsSound x.allotment.table) 
       numbers = ap (λ t. job_numbers (as_known t.jobs)) table ∙ near.kept.numbers ∙ sym jobs.numbers;
       jobs = λ a. ap (λ t. record_of (as_known t.jobs) a) table ∙ near.kept.jobs a ∙ sym (jobs.records a);
       agents = near.kept.agents ∙ sym (ap (λ t. length t.cluster.machines) table);
-      apps = near.kept.apps;
+      apps = λ a e. near.kept.apps a (sym (jobs.known a) ∙ e);
       slots = λ a o e. near.kept.slots a o e ∙ sym (jobs.known a);
       size = size ∙ near.kept.size ∙ sym (ap (λ t. length t.cluster.machines) table);
       rising = rising;

@@ -57,7 +57,7 @@ module _ (x : CoreRecord) (news : News) (mid : IsMid x news) (agents : List Down
     numbers = mid.kept.numbers;
     jobs = mid.kept.jobs;
     agents = rows.wide ∙ mid.kept.agents;
-    apps = grants.wide ∙ mid.kept.apps;
+    apps = λ a e. let lt = mid.kept.apps a e in let wide = grants.wide in omega (arith, lt, wide);
     slots = λ a o now. slot a o now (other_at x.apps apps a o grants.wide now).item (other_at x.apps apps a o grants.wide now).there;
     size = mid.kept.size;
     rising = mid.kept.rising;

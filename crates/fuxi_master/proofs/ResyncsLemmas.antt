@@ -123,7 +123,7 @@ module _ (x : CoreRecord) where
     numbers = kept.numbers;
     jobs = kept.jobs;
     agents = length-map x.agents agent_forgotten ∙ kept.agents;
-    apps = length-map x.apps (option_map app_forgotten) ∙ kept.apps;
+    apps = λ a e. let lt = kept.apps a e in let wide = length-map x.apps (option_map app_forgotten) in omega (arith, lt, wide);
     slots = each_was (λ a (o : Option App). is_some o ≡ is_known x.known.jobs a) (option_map app_forgotten) x.apps (λ a o there. filled o ∙ kept.slots a o there);
     size = kept.size;
     rising = kept.rising;

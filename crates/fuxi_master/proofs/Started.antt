@@ -86,9 +86,9 @@ pub no_jobs_first : (c : ClusterRecord) (x : AllotmentRecord) → ((M : Master) 
 no_jobs_first c x starts = no_jobs x.table.jobs (starts (first_master 0 [] []) refl refl refl refl refl).placing.numbers
 
 module _ (law : (c : ClusterRecord) (sides : Id → Side) (M : Master) (forced : List Id) (q : Id) → publish_alone sides (offers_alone c sides M forced) q ≡ side_after c sides M forced q)
-    (c : ClusterRecord) (valid : IsTrue (is_valid_cluster c)) (epoch : ℕ) (known : Knowledge) (few : (a : ℕ) → is_known known.jobs a ≡ true → a < 256) (x y : AllotmentRecord)
-    (starts : (M : Master) → M.jobs ≡ [] → M.table ≡ [] → M.demands ≡ [] → M.line ≡ [] → M.reported ≡ [] → Allots x c M) (admitted : AreAdmitted known.jobs 256 x y)
-    (agents : List Down) (downs : AreDownsStarted epoch (length c.machines) agents) (apps : List (Option App)) (slots : AreAppsStarted epoch known.jobs 256 apps) where
+    (c : ClusterRecord) (valid : IsTrue (is_valid_cluster c)) (epoch : ℕ) (known : Knowledge) (numbers : ℕ) (below_numbers : (a : ℕ) → is_known known.jobs a ≡ true → a < numbers) (x y : AllotmentRecord)
+    (starts : (M : Master) → M.jobs ≡ [] → M.table ≡ [] → M.demands ≡ [] → M.line ≡ [] → M.reported ≡ [] → Allots x c M) (admitted : AreAdmitted known.jobs numbers x y)
+    (agents : List Down) (downs : AreDownsStarted epoch (length c.machines) agents) (apps : List (Option App)) (slots : AreAppsStarted epoch known.jobs numbers apps) where
   abbrev core : CoreRecord
   core = first_core c epoch known y agents apps
 
@@ -96,7 +96,7 @@ module _ (law : (c : ClusterRecord) (sides : Id → Side) (M : Master) (forced :
   N = first_master epoch known.jobs known.bans
 
   records : (a : ℕ) → record_of (as_known y.table.jobs) a ≡ record_of known.jobs a
-  records = all_records known.jobs x y few admitted
+  records = all_records known.jobs numbers x y below_numbers admitted
 
   allots : Allots y c N
   allots =
@@ -176,7 +176,7 @@ module _ (law : (c : ClusterRecord) (sides : Id → Side) (M : Master) (forced :
       numbers = same_numbers (as_known y.table.jobs) known.jobs records;
       jobs = records;
       agents = downs.wide ∙ sym machines_same;
-      apps = slots.wide;
+      apps = λ a e. let lt = below_numbers a e in let wide = slots.wide in omega (arith, lt, wide);
       slots = slots.slots_are;
       size = sym machines_same;
       rising = tt;
@@ -210,9 +210,9 @@ module _ (law : (c : ClusterRecord) (sides : Id → Side) (M : Master) (forced :
       told = told_first c (first_master epoch known.jobs known.bans) (map app_id (job_numbers known.jobs)) positive;
     }
 
-pub started_within : (c : ClusterRecord) (epoch : ℕ) (known : Knowledge) (x y : AllotmentRecord) → AreAdmitted known.jobs 256 x y → (agents : List Down) → AreDownsStarted epoch (length c.machines) agents
-    → (apps : List (Option App)) → AreAppsStarted epoch known.jobs 256 apps → x.placer.seen.turns ≡ 0 → IsWithin 1 (first_core c epoch known y agents apps)
-started_within c epoch known x y admitted agents downs apps slots turns = record {
+pub started_within : (c : ClusterRecord) (epoch : ℕ) (known : Knowledge) (numbers : ℕ) (x y : AllotmentRecord) → AreAdmitted known.jobs numbers x y → (agents : List Down) → AreDownsStarted epoch (length c.machines) agents
+    → (apps : List (Option App)) → AreAppsStarted epoch known.jobs numbers apps → x.placer.seen.turns ≡ 0 → IsWithin 1 (first_core c epoch known y agents apps)
+started_within c epoch known numbers x y admitted agents downs apps slots turns = record {
   agents = all_more (IsDownStarted epoch) (λ (d : Down). d.outgoing.last ≤ 1) (λ d h. let l = h.last in omega (arith, l)) agents downs.each;
   apps = λ a d e. let l = (slots.each a d e).last in omega (arith, l);
   turns = let t : y.placer.seen.turns ≡ 0 = admitted.turns ∙ turns in omega (arith, t);

@@ -1,5 +1,5 @@
 -- The known jobs are admitted, one number after another.
-use Rattle.std.proofs.Common.{◌≡◌, ℕ, ◌+◌, ◌<◌, Bool, true, false, cond, nat_eq, nat_lt, T, List, [], ◌∷◌, map, Option, Some, None, refl, sym, ◌∙◌, ap, subst, arith}
+use Rattle.std.proofs.Common.{◌≡◌, ℕ, suc, ◌+◌, ◌<◌, Bool, true, false, cond, nat_eq, nat_lt, T, List, [], ◌∷◌, length, map, slice_get, Option, Some, None, refl, sym, ◌∙◌, ap, subst, arith}
 use Rattle.std.specs.Prelude.{◌||◌, is_some}
 use Rattle.std.specs.Option.{option_map}
 use Rattle.std.specs.Ordering.{nat_cmp, eq_by_cmp, is_eq}
@@ -156,14 +156,26 @@ module _ (jobs : List KnownJob) (n : ℕ) (x y z : AllotmentRecord) (j : JobReco
     turns = turns ∙ h.turns;
   }
 
--- ---- at the end: all of them
-pub all_records : (jobs : List KnownJob) (x y : AllotmentRecord) → ((a : ℕ) → is_known jobs a ≡ true → a < 256) → AreAdmitted jobs 256 x y → (a : ℕ) → record_of (as_known y.table.jobs) a ≡ record_of jobs a
-all_records jobs x y few h a = h.records a ∙ by (nat_lt a 256) (is_known jobs a) refl refl
+-- ---- at the end: all of them, where each number is below the bound
+pub all_records : (jobs : List KnownJob) (n : ℕ) (x y : AllotmentRecord) → ((a : ℕ) → is_known jobs a ≡ true → a < n) → AreAdmitted jobs n x y → (a : ℕ) → record_of (as_known y.table.jobs) a ≡ record_of jobs a
+all_records jobs n x y below h a = h.records a ∙ by (nat_lt a n) (is_known jobs a) refl refl
   where
-    by : (b k : Bool) → nat_lt a 256 ≡ b → is_known jobs a ≡ k → elim b as (λ _. Option JobRecord) [ true ↦ record_of jobs a | false ↦ None ] ≡ record_of jobs a
+    by : (b k : Bool) → nat_lt a n ≡ b → is_known jobs a ≡ k → elim b as (λ _. Option JobRecord) [ true ↦ record_of jobs a | false ↦ None ] ≡ record_of jobs a
     by true k e f = refl
     by false false e f = sym (no_record jobs a f)
-    by false true e f = absurd (let lt = few a f in let t : nat_lt a 256 ≡ true = grind (arith, nat_tests, lt) in let x : true ≡ false = sym t ∙ e in cc)
+    by false true e f = absurd (let lt = below a f in let t : nat_lt a n ≡ true = grind (arith, nat_tests, lt) in let x : true ≡ false = sym t ∙ e in cc)
+
+-- ---- a bound of the numbers of the first jobs
+abbrev pub AreBelow : List KnownJob → ℕ → ℕ → Type 0
+AreBelow jobs n numbers = (k : ℕ) (j : KnownJob) → k < n → slice_get jobs k ≡ Some j → j.job.number < numbers
+
+pub all_below : (jobs : List KnownJob) (n numbers : ℕ) → n ≡ length jobs → AreBelow jobs n numbers → (a : ℕ) → is_known jobs a ≡ true → a < numbers
+all_below [] n numbers all h a e = cc
+all_below (k ∷ ks) n numbers all h a e = by (nat_eq k.job.number a) refl e (all_below ks (length ks) numbers refl (λ i j lt there. h (suc i) j (omega (arith, lt, all)) there) a)
+  where
+    by : (b : Bool) → nat_eq k.job.number a ≡ b → is_some (cond b (Some k) (job_of ks a)) ≡ true → (is_known ks a ≡ true → a < numbers) → a < numbers
+    by true t f more = let same = number_is k.job.number a t in let first = h 0 k (omega (arith, all)) refl in omega (arith, first, same)
+    by false t f more = more f
 
 -- ---- jobs of the same records have the same numbers
 rises : (jobs : List KnownJob) → T (is_sorted {X = ℕ} nat_cmp (map (λ (n : ℕ). (n, 0)) (job_numbers jobs)))

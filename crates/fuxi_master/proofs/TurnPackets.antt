@@ -7,7 +7,6 @@ use Rattle.std.proofs.lemmas.List.{map-append, flat_map_more}
 use Rattle.std.proofs.lemmas.Bool.Decides.{nat_tests}
 use Rattle.fuxi_terms.specs.Cluster.{JobRecord}
 use Rattle.fuxi_terms.specs.Jobs.{KnownJob, job_of, is_known}
-use Rattle.fuxi_terms.specs.Limits.{most_jobs}
 use Rattle.fuxi_terms.specs.Lists.{below}
 use Rattle.fuxi_terms.proofs.Booleans.{nat_itself, or_left, or_right}
 use Rattle.fuxi_terms.proofs.Lists.{take_last}
@@ -98,12 +97,6 @@ agent_peer x kept role n peer is =
 
 pub app_peer : (x : CoreRecord) (role : Role) (n : ℕ) → is_peer x role n ≡ true → role ≡ AsApp → is_known x.known.jobs n ≡ true
 app_peer x role n peer is = subst (λ (k : Role). is_peer x k n ≡ true) is peer
-
-pub app_below : (x : CoreRecord) → IsKept x → ((a : ℕ) → is_known x.known.jobs a ≡ true → a < most_jobs) → (n : ℕ) → is_known x.known.jobs n ≡ true → n < length x.apps
-app_below x kept few n known =
-    let lt = few n known in
-    let wide = kept.apps in
-    omega (arith, lt, wide)
 
 -- the slot of a known job is filled
 pub app_there : (x : CoreRecord) → IsKept x → (n : ℕ) → is_known x.known.jobs n ≡ true → slice_get x.apps n ≡ Some None → ⊥

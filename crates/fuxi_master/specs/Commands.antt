@@ -1,5 +1,5 @@
 -- What commands make of a master, before the end of the step.
-use Rattle.std.specs.Prelude.{◌≡◌, ℕ, ◌+◌, ◌<◌, ◌≤◌, Bool, true, false, nat_eq, not, ◌&&◌, ◌||◌, List, length, Some, None}
+use Rattle.std.specs.Prelude.{◌≡◌, ℕ, ◌+◌, ◌-◌, ◌<◌, ◌≤◌, Bool, true, false, nat_eq, not, ◌&&◌, ◌||◌, List, ◌++◌, length, replicate, Option, Some, None}
 use Rattle.std.specs.FinMap.Entries.{where_key}
 use Rattle.fuxi_terms.specs.Cluster.{ClusterRecord, JobRecord}
 use Rattle.fuxi_terms.specs.Keys.{spot_cmp}
@@ -12,6 +12,7 @@ use Rattle.written_roles.specs.MasterRoles.{MasterRole}
 use Rattle.allotment.specs.SettlingRuns.{AreTouched}
 use Rattle.allotment.specs.Allotted.{AllotmentRecord, Allots, AllWait, Touches}
 use Rattle.broadcast.specs.declared.grants.News.{News}
+use Rattle.broadcast.specs.AllShown.{App}
 use Rattle.place_pass.specs.Placers.{IsUpToDate}
 use Rattle.fuxi_master.specs.Cores.{CoreRecord, StandsFor, IsWithin, IsWithinSoon}
 use Rattle.fuxi_master.specs.Steps.{IsMid, StandsMid}
@@ -29,6 +30,10 @@ unbanned_in M m = record M { bans = without_number m M.bans }
 
 abbrev pub beginning : Master → Master
 beginning M = record M { serving = true }
+
+-- there is a slot for each number below n, and those that are new are empty
+abbrev pub with_slots : ℕ → List (Option App) → List (Option App)
+with_slots n slots = slots ++ replicate (n - length slots) None
 
 -- a machine has no grant and takes none. Only machines of the cluster are reported
 pub record IsClosed (m : ℕ) (x y : AllotmentRecord) : Type 0 where

@@ -6,7 +6,7 @@ use Rattle.std.specs.FinMap.Entries.{is_sorted}
 use Rattle.fuxi_terms.specs.Counts.{count}
 use Rattle.fuxi_terms.specs.Jobs.{is_known, job_numbers}
 use Rattle.fuxi_terms.specs.Keys.{Spot, spot_cmp}
-use Rattle.fuxi_terms.specs.Limits.{most_jobs, most_steps}
+use Rattle.fuxi_terms.specs.Limits.{most_steps}
 use Rattle.fuxi_terms.specs.Numbers.{has_number}
 use Rattle.fuxi_terms.specs.Rows.{IsRow, patched_row}
 use Rattle.fuxi_terms.specs.Tallies.{TallyRecord, ChangeRecord, empty_tally, patched_tally}
@@ -65,7 +65,7 @@ pub record IsKept (x : CoreRecord) : Type 0 where
   pub numbers : job_numbers (as_known x.allotment.table.jobs) ≡ job_numbers x.known.jobs
   pub jobs : (a : ℕ) → record_of (as_known x.allotment.table.jobs) a ≡ record_of x.known.jobs a
   pub agents : length x.agents ≡ length x.allotment.table.cluster.machines
-  pub apps : length x.apps ≡ most_jobs
+  pub apps : (a : ℕ) → is_known x.known.jobs a ≡ true → a < length x.apps
   pub slots : (a : ℕ) (o : Option App) → slice_get x.apps a ≡ Some o → is_some o ≡ is_known x.known.jobs a
   pub size : x.reported.size ≡ length x.allotment.table.cluster.machines
   pub rising : T (is_sorted {X = ℕ} nat_cmp (map (λ (m : ℕ). (m, 0)) x.reported.numbers))

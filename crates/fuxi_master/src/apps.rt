@@ -67,7 +67,6 @@ impl Core {
         requires near { IsNear (core_of self.old) }
         requires boots { HasBoots (λ a. fresh && nat_eq a app.0) (core_of self.old) }
         requires known { is_known self.old.known.jobs app.0 ≡ true }
-        requires small { app.0 < 256 }
         requires told { (fresh || taken) ≡ true }
         requires asks { IfSome change.now (λ change. ChangesAsked app.0 fresh taken change (core_of self.old)) }
         ensures none { IfOk result (λ news. (news.reported ≡ None) × (news.admitted ≡ None)) }

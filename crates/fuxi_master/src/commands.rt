@@ -1,12 +1,12 @@
 //! What a master is told.
 
-ghost use Rattle.std.specs.Prelude.{◌≡◌, ◌<◌, ◌≤◌, ◌^◌, ℕ, true, false, length, map, filter, Some, None, IfOk, OnOk};
+ghost use Rattle.std.specs.Prelude.{◌≡◌, ◌+◌, ◌<◌, ◌≤◌, ◌^◌, ℕ, true, false, length, map, filter, Some, None, IfOk, OnOk};
 ghost use Rattle.fuxi_terms.specs.Jobs.{is_known};
 ghost use Rattle.fuxi_terms.specs.Limits.{most_machines};
 ghost use Rattle.written_roles.specs.MasterSteps.{ended_in, banned_in};
 ghost use Rattle.written_roles.specs.MasterRoles.{MasterRole};
 ghost use Rattle.fuxi_master.specs.Cores.{IsCore, StandsFor};
-ghost use Rattle.fuxi_master.specs.Commands.{changed_by, admitting, unbanned_in, beginning, IsClosed, IsOpened, IsPreempted, Preempts};
+ghost use Rattle.fuxi_master.specs.Commands.{changed_by, admitting, with_slots, unbanned_in, beginning, IsClosed, IsOpened, IsPreempted, Preempts};
 ghost use Rattle.fuxi_terms.specs.Lists.{below};
 ghost use Rattle.fuxi_terms.specs.Numbers.{has_number};
 ghost use Rattle.schedule_unit.specs.declared.party.MachineNo.{MachineNo as MachineSeen};
@@ -23,7 +23,7 @@ use failover::Machines;
 use fuxi_terms::OutOfMemory;
 use grant_table::Steps;
 use ledger_law::Ledger as _;
-use party_ledgers::Demand;
+use party_ledgers::{Demand, Grants};
 use schedule_unit::{AppNo, Job, MachineNo};
 use std::alloc::Global;
 use std::marker::Brand;
@@ -52,6 +52,7 @@ impl Core {
         let machines = allotment.table().cluster().machines();
         known.admit(alloc, job)?;
         let allotment = allotment.admit(alloc, job)?;
+        make_slots(&mut apps, app)?;
         apps[app.0 as usize] = Some(Side::start(alloc, epoch)?);
         let news = News {
             reported: None,
@@ -137,6 +138,17 @@ impl Core {
         self.serving = true;
         news(alloc, None, None)
     }
+}
+
+// Makes a slot of each number up to the job's, where there are fewer. Those that are new are empty.
+fn make_slots(apps: &mut Vec<Option<Side<Grants, Demand>>>, app: AppNo) -> Result<(), OutOfMemory>
+    ensures { OnOk result (apps.new.items ≡ with_slots (app.0 + 1) apps.old.items) }
+{
+    let missing = (app.0 as usize + 1).saturating_sub(apps.len());
+    for _ in 0..missing {
+        apps.push(None)?;
+    }
+    Ok(())
 }
 
 // The machines that are reported.

@@ -1,7 +1,8 @@
 //! How a master starts.
 
-ghost use Rattle.std.specs.Prelude.{◌≡◌, ◌<◌, [], length, IfOk};
+ghost use Rattle.std.specs.Prelude.{ℕ, ◌≡◌, ◌<◌, [], true, length, IfOk};
 ghost use Rattle.std.specs.List.{AllByRecursion};
+ghost use Rattle.fuxi_terms.specs.Jobs.{is_known};
 ghost use Rattle.written_roles.specs.MasterRoles.{master_started};
 ghost use Rattle.written_roles.specs.HardState.{HardState};
 ghost use Rattle.allotment.specs.Allotted.{AllWait};
@@ -48,16 +49,29 @@ fn app_started(alloc: Global, epoch: u64) -> Result<Side<Grants, Demand>, OutOfM
     Ok(side)
 }
 
-// The ends of the channels with the applications of known jobs, by job number. Most slots are empty.
+// One more than the greatest number of a known job: what is known stands below it.
+fn numbers_known(known: &Known) -> u32
+    ensures { (a : ℕ) → is_known known.now.jobs a ≡ true → a < result }
+{
+    let mut numbers = 0;
+    for index in 0..known.jobs() {
+        numbers = numbers.max(known.at(index).app().0 + 1);
+    }
+    numbers
+}
+
+// The ends of the channels with the applications of known jobs, by job number, for the numbers below a bound. There is room for a slot of
+// each number that there can be.
 fn apps_started(
     alloc: Global,
     epoch: u64,
     known: &Known,
+    numbers: u32,
 ) -> Result<Vec<Option<Side<Grants, Demand>>>, OutOfMemory>
-    ensures { IfOk result (λ slots. AreAppsStarted epoch known.now.jobs 256 slots.items) }
+    ensures { IfOk result (λ slots. AreAppsStarted epoch known.now.jobs numbers slots.items) }
 {
     let mut slots = Vec::with_capacity(alloc, MOST_JOBS as usize)?;
-    for number in 0..MOST_JOBS {
+    for number in 0..numbers {
         if known.job(AppNo(number)).is_none() {
             slots.push(None)?;
             continue;
@@ -67,18 +81,19 @@ fn apps_started(
     Ok(slots)
 }
 
-// The known jobs are admitted, in number order.
+// The known jobs of the numbers below a bound are admitted, in number order.
 fn jobs_admitted(
     alloc: Global,
     allotment: Allotment,
     known: &Known,
+    numbers: u32,
 ) -> Result<Allotment, OutOfMemory>
     requires waits { AllWait allotment }
     requires empty { allotment.table.jobs ≡ [] }
-    ensures { IfOk result (AreAdmitted known.now.jobs 256 allotment) }
+    ensures { IfOk result (AreAdmitted known.now.jobs numbers allotment) }
 {
     let mut left = allotment;
-    for number in 0..MOST_JOBS {
+    for number in 0..numbers {
         let Some(job) = known.job(AppNo(number)) else {
             continue;
         };
@@ -101,11 +116,11 @@ impl Core {
         ensures stands { IfOk result (λ core. (h : HardState) → h.jobs ≡ known.jobs → h.bans ≡ known.bans → StandsFor (core_of core) (master_started cluster.now h epoch)) }
     {
         law::step_ends();
-        let _jobs = known.jobs();
+        let numbers = numbers_known(&known);
         let allotment = Allotment::start(alloc, cluster)?;
-        let allotment = jobs_admitted(alloc, allotment, &known)?;
+        let allotment = jobs_admitted(alloc, allotment, &known, numbers)?;
         let agents = agents_started(alloc, epoch, cluster.machines())?;
-        let apps = apps_started(alloc, epoch, &known)?;
+        let apps = apps_started(alloc, epoch, &known, numbers)?;
         Ok(Core {
             epoch,
             known,

@@ -6,7 +6,6 @@ use Rattle.core_side.specs.Parcels.{id_of}
 use Rattle.fuxi_master.specs.Heard.{Changes, ChangesAsked, demanding}
 use Rattle.fuxi_master.specs.Seen.{core_of}
 use Rattle.fuxi_master.specs.ToldAsHeard.{IsHeardOnly}
-use Rattle.fuxi_master.proofs.AppHeard.{app_number}
 use Rattle.fuxi_master.proofs.StepsLemmas.{wider, has_role, app_quiet, app_quiet_core, app_changed, app_talks}
 use Rattle.fuxi_master.proofs.ToldAsHeardLemmas.{told_demanding}
 use Rattle.fuxi_master.proofs.state.Core.heard_app.Goals as goal
@@ -32,9 +31,6 @@ take_demand-requires-clause-asks c =
 
 pub take_demand-requires-clause-boots : goal.take_demand-requires-clause-boots
 take_demand-requires-clause-boots c = subst (λ f. HasBoots (λ a. f && nat_eq a c.args.packet.from.number) (core_of c.hear_app.new.self)) (sym c.fresh-fresh.ensures) c.in_ok-heard.ensures.boots
-
-pub take_demand-requires-clause-small : goal.take_demand-requires-clause-small
-take_demand-requires-clause-small c = app_number c.args.packet c.requires.formed c.requires.from
 
 pub finished-requires-clause-role : goal.finished-requires-clause-role
 finished-requires-clause-role c =

@@ -15,7 +15,7 @@ returns-clause-core c =
     let agents = c.in_ok-agents.agents.items in
     let downs : AreDownsStarted c.args.epoch _ agents = record { wide = c.in_ok-agents.ensures.wide ∙ c.machines.ensures.number; each = c.in_ok-agents.ensures.each } in
     subst (λ (r : Reported). IsCore (record (first_core k c.args.epoch c.args.known c.in_ok-allotment-2.allotment agents c.in_ok-apps.apps.items) { reported = r })) (sym c.none.ensures)
-    (started_core c.step_ends.ensures k c.machines.ensures.valid c.args.epoch c.args.known c.jobs-jobs.ensures.numbers c.in_ok-allotment.allotment c.in_ok-allotment-2.allotment c.in_ok-allotment.ensures.stands c.in_ok-allotment-2.ensures agents downs c.in_ok-apps.apps.items c.in_ok-apps.ensures c.requires c.in_ok-allotment.ensures.touched)
+    (started_core c.step_ends.ensures k c.machines.ensures.valid c.args.epoch c.args.known c.numbers_known-numbers.result c.numbers_known-numbers.ensures c.in_ok-allotment.allotment c.in_ok-allotment-2.allotment c.in_ok-allotment.ensures.stands c.in_ok-allotment-2.ensures agents downs c.in_ok-apps.apps.items c.in_ok-apps.ensures c.requires c.in_ok-allotment.ensures.touched)
 
 pub returns-clause-within : goal.returns-clause-within
 returns-clause-within c =
@@ -23,7 +23,7 @@ returns-clause-within c =
     let agents = c.in_ok-agents.agents.items in
     let downs : AreDownsStarted c.args.epoch _ agents = record { wide = c.in_ok-agents.ensures.wide ∙ c.machines.ensures.number; each = c.in_ok-agents.ensures.each } in
     subst (λ (r : Reported). IsWithin 1 (record (first_core k c.args.epoch c.args.known c.in_ok-allotment-2.allotment agents c.in_ok-apps.apps.items) { reported = r })) (sym c.none.ensures)
-    (started_within k c.args.epoch c.args.known c.in_ok-allotment.allotment c.in_ok-allotment-2.allotment c.in_ok-allotment-2.ensures agents downs c.in_ok-apps.apps.items c.in_ok-apps.ensures c.in_ok-allotment.ensures.turns)
+    (started_within k c.args.epoch c.args.known c.numbers_known-numbers.result c.in_ok-allotment.allotment c.in_ok-allotment-2.allotment c.in_ok-allotment-2.ensures agents downs c.in_ok-apps.apps.items c.in_ok-apps.ensures c.in_ok-allotment.ensures.turns)
 
 pub returns-clause-stands : goal.returns-clause-stands
 returns-clause-stands c = λ h jobs bans.
@@ -31,4 +31,4 @@ returns-clause-stands c = λ h jobs bans.
     let agents = c.in_ok-agents.agents.items in
     let downs : AreDownsStarted c.args.epoch _ agents = record { wide = c.in_ok-agents.ensures.wide ∙ c.machines.ensures.number; each = c.in_ok-agents.ensures.each } in
     subst (λ (r : Reported). StandsFor (record (first_core k c.args.epoch c.args.known c.in_ok-allotment-2.allotment agents c.in_ok-apps.apps.items) { reported = r }) (master_started k h c.args.epoch)) (sym c.none.ensures)
-    (started_alike c.step_ends.ensures k c.machines.ensures.valid c.args.epoch c.args.known c.jobs-jobs.ensures.numbers c.in_ok-allotment.allotment c.in_ok-allotment-2.allotment c.in_ok-allotment.ensures.stands c.in_ok-allotment-2.ensures agents downs c.in_ok-apps.apps.items c.in_ok-apps.ensures h jobs bans)
+    (started_alike c.step_ends.ensures k c.machines.ensures.valid c.args.epoch c.args.known c.numbers_known-numbers.result c.numbers_known-numbers.ensures c.in_ok-allotment.allotment c.in_ok-allotment-2.allotment c.in_ok-allotment.ensures.stands c.in_ok-allotment-2.ensures agents downs c.in_ok-apps.apps.items c.in_ok-apps.ensures h jobs bans)

@@ -6,7 +6,7 @@ use Rattle.fuxi_master.proofs.KnownJobs.{has_units}
 use Rattle.fuxi_master.proofs.state.Core.take_demand.Goals as goal
 
 pub unreachable-requires : goal.unreachable-requires
-unreachable-requires c = slot_there (core_of c.args.self.now) c.requires.near.kept c.args.app.0 c.requires.small c.requires.known c.index.result.now c.index.ensures c.in_default.is
+unreachable-requires c = slot_there (core_of c.args.self.now) c.requires.near.kept c.args.app.0 c.requires.known c.index.result.now c.index.ensures c.in_default.is
 
 pub demanded-requires-clause-units : goal.demanded-requires-clause-units
 demanded-requires-clause-units c =
@@ -16,13 +16,13 @@ demanded-requires-clause-units c =
 pub demanded-requires-clause-told : goal.demanded-requires-clause-told
 demanded-requires-clause-told c =
     let x = core_of c.args.self.now in
-    let at = slot_at x c.requires.near.kept c.args.app.0 c.requires.small c.index.result.now (Some c.in-Some.side) c.index.ensures c.in-Some.is in
+    let at = slot_at x c.requires.near.kept c.args.app.0 c.requires.known c.index.result.now (Some c.in-Some.side) c.index.ensures c.in-Some.is in
     asked_live x c.args.app.0 c.args.fresh c.args.taken c.counts-live.result c.in-Some.side at c.counts-live.ensures c.args.change.now c.requires.asks
 
 pub returns-clause-changes : goal.returns-clause-changes
 returns-clause-changes c =
     let x = core_of c.args.self.now in
-    let at = slot_at x c.requires.near.kept c.args.app.0 c.requires.small c.index.result.now (Some c.in-Some.side) c.index.ensures c.in-Some.is in
+    let at = slot_at x c.requires.near.kept c.args.app.0 c.requires.known c.index.result.now (Some c.in-Some.side) c.index.ensures c.in-Some.is in
     let sound = subst IsSound c.table.ensures c.cluster-sound.ensures.sound in
     demand_changes x c.requires.near sound c.args.app.0 c.args.fresh c.args.taken c.counts-live.result c.in-Some.side at c.requires.boots c.requires.known c.requires.told c.demanded.new.allotment c.in_ok-credited.credited.items c.in_ok-credited.ensures c.counts-live.ensures
     (record { reported = None; admitted = None; machines = c.new.result; job = Some c.args.app; credited = c.in_ok-credited.credited })
