@@ -1,3 +1,4 @@
+pub mod SlotPlacesLemmas
 pub mod SlotsLemmas
 pub mod PeersLemmas
 pub mod MastersLemmas

@@ -7,6 +7,7 @@ mod apps;
 pub mod law;
 mod masters;
 mod party;
+mod places;
 mod slots;
 
 pub use agents::start_agent;

@@ -1,7 +1,7 @@
 //! The parties of one kind, by their numbers.
 
 ghost use Rattle.core_side.specs.Parcels.{IsSent};
-ghost use Rattle.std.specs.Prelude.{◌≡◌, ◌+◌, ◌<◌, ◌≤◌, ℕ, length, is_some, Some, None, IfOk, IfSome, IsSome, OnOk, OnErr};
+ghost use Rattle.std.specs.Prelude.{◌≡◌, ◌+◌, ◌<◌, ◌≤◌, ℕ, length, is_some, Some, None, IfOk, IfSome, IsSome, OnOk, OnErr, slice_get};
 ghost use Rattle.std.specs.List.{AllByRecursion};
 ghost use Rattle.std.specs.List.Sorted.{IsStrictlySortedBy};
 ghost use Rattle.std.specs.Map.{keys_of};
@@ -18,12 +18,11 @@ ghost use Rattle.party_slots.specs.PartyAnswers.{HearsAlike, SendsAlike};
 ghost use Rattle.party_slots.specs.Slots.{entry_at, slot_at, boot_at, ActsInSlot, IsSet, IsGone, IsTakenOut, AreOf, AreWithin, MayStep, HearInWorld, TurnInWorld, ResyncInWorld, StartInWorld};
 
 use crate::party::Party;
+use crate::places::place_of;
 use core_side::Reply;
 use ledger_law::OutOfMemory;
 use party_ledgers::{Header, Kind, Packet, Packets};
 use std::alloc::Global;
-use std::collections::BTreeMap;
-use std::collections::btree_map::Keys;
 use std::marker::Model;
 use written_parties::law;
 
@@ -32,8 +31,8 @@ use written_parties::law;
 /// What its calls do is said of every good world that they stand in, of whatever kind (`AreOf`). A call makes at most one step of one
 /// party; a party may take fewer than 2^50. A start alone makes room.
 pub struct Slots<P: Party> {
-    // The core, none while it acts, and the last boot.
-    slots: BTreeMap<u64, (Option<P>, u64)>,
+    // In the order of the numbers: the core, none while it acts, and the last boot.
+    slots: Vec<(u64, (Option<P>, u64))>,
 }
 
 // Written out, so that who lets one go checks this call and not all of its parts.
@@ -45,10 +44,15 @@ impl<P: Party> Drop for Slots<P> {
 
 impl<P: Party> Model for Slots<P> {
     ghost use Rattle.party_slots.specs.Slots.{SlotsRecord};
+    ghost use Rattle.std.specs.Prelude.{T};
+    ghost use Rattle.std.specs.Ordering.{nat_cmp};
+    ghost use Rattle.std.specs.FinMap.Entries.{is_sorted};
 
     ghost Value = { SlotsRecord P };
 
-    ghost view = { λ s. record { slots = s.slots.entries } };
+    ghost view = { λ s. record { slots = s.slots.items } };
+
+    ghost invariant = { λ s. T (is_sorted nat_cmp s.slots.items) };
 }
 
 impl<P: Party> Slots<P> {
@@ -58,7 +62,7 @@ impl<P: Party> Slots<P> {
         ensures within { AreWithin P.steps 0 result }
     {
         Slots {
-            slots: BTreeMap::new(alloc),
+            slots: Vec::new(alloc),
         }
     }
 
@@ -70,21 +74,21 @@ impl<P: Party> Slots<P> {
         self.slots.len()
     }
 
-    /// The numbers that have a slot, in their order.
-    pub fn numbers(&self) -> Keys<'_, u64, (Option<P>, u64)>
-        ensures numbers { result ≡ keys_of self.now.slots }
-        ensures rising { IsStrictlySortedBy nat_cmp (keys_of self.now.slots) }
+    /// The number of the slot at a place of their order, counted from 0.
+    pub fn number(&self, place: usize) -> u64
+        requires { place < length self.now.slots }
+        ensures { slice_get (keys_of self.now.slots) place ≡ Some result }
     {
-        self.slots.keys()
+        self.slots[place].0
     }
 
     /// The party of a number, or `None` where none runs.
     pub fn get(&self, number: u64) -> Option<&P>
         ensures { option_copied result ≡ slot_at self.now number }
     {
-        match self.slots.get(&number) {
-            Some(slot) => slot.0.as_ref(),
-            None => None,
+        match place_of(&self.slots, number) {
+            Ok(place) => self.slots[place].1.0.as_ref(),
+            Err(_) => None,
         }
     }
 
@@ -92,9 +96,9 @@ impl<P: Party> Slots<P> {
     pub fn boot(&self, number: u64) -> u64
         ensures { result ≡ boot_at self.now number }
     {
-        match self.slots.get(&number) {
-            Some(slot) => slot.1,
-            None => 0,
+        match place_of(&self.slots, number) {
+            Ok(place) => self.slots[place].1.1,
+            Err(_) => 0,
         }
     }
 
@@ -107,9 +111,10 @@ impl<P: Party> Slots<P> {
         requires { (p : P) → slot_at self.old number ≡ Some p → F.pre deed p }
         ensures { ActsInSlot (F.post deed) number self.old self.new result }
     {
-        let Some(slot) = self.slots.get_mut(&number) else {
+        let Ok(place) = place_of(&self.slots, number) else {
             return Ok(None);
         };
+        let slot = &mut self.slots[place].1;
         let Some(party) = slot.0.take() else {
             return Ok(None);
         };
@@ -125,9 +130,10 @@ impl<P: Party> Slots<P> {
     pub(crate) fn take(&mut self, number: u64) -> Option<P>
         ensures { IsTakenOut number self.old self.new result }
     {
-        let Some(slot) = self.slots.get_mut(&number) else {
+        let Ok(place) = place_of(&self.slots, number) else {
             return None;
         };
+        let slot = &mut self.slots[place].1;
         slot.0.take()
     }
 
@@ -136,9 +142,10 @@ impl<P: Party> Slots<P> {
         requires { IsSome (entry_at self.old number) }
         ensures { IsSet number (Some party) (boot_at self.old number) self.old self.new }
     {
-        let Some(slot) = self.slots.get_mut(&number) else {
+        let Ok(place) = place_of(&self.slots, number) else {
             unreachable!();
         };
+        let slot = &mut self.slots[place].1;
         slot.0 = Some(party);
     }
 
@@ -156,9 +163,15 @@ impl<P: Party> Slots<P> {
         ensures ok { OnOk result (IsSet number (Some party) boot self.old self.new) }
         ensures err { OnErr result (self.new ≡ self.old) }
     {
-        match self.slots.insert(number, (Some(party), boot)) {
-            Ok(_) => Ok(()),
-            Err(_) => Err(OutOfMemory),
+        match place_of(&self.slots, number) {
+            Ok(place) => {
+                self.slots[place].1 = (Some(party), boot);
+                Ok(())
+            }
+            Err(place) => {
+                self.slots.insert(place, (number, (Some(party), boot)))?;
+                Ok(())
+            }
         }
     }
 
@@ -167,7 +180,11 @@ impl<P: Party> Slots<P> {
         ensures gone { IsGone number self.old self.new }
         ensures ran { result ≡ is_some (entry_at self.old number) }
     {
-        self.slots.remove(&number).is_some()
+        let Ok(place) = place_of(&self.slots, number) else {
+            return false;
+        };
+        self.slots.remove(place);
+        true
     }
 
     /// A packet, formed and no End, is heard by the party of a number, which it is for; `None` where none runs. Where memory is refused

@@ -1,5 +1,5 @@
 -- What a loop over numbers has printed, of each world that something holds of.
-use Rattle.std.proofs.Common.{◌≡◌, ℕ, List, [], ◌∷◌, ◌++◌, sym, ◌∙◌, ap, append-nil}
+use Rattle.std.proofs.Common.{ℕ, List, [], ◌∷◌, ◌++◌, sym, ◌∙◌, ap, append-nil}
 use Rattle.std.specs.List.{flat_map}
 use Rattle.std.proofs.lemmas.List.Concat.{flat_map-append}
 use Rattle.written_world.specs.Outputs.{Line}
@@ -10,13 +10,6 @@ use Rattle.schedule_text.specs.Writing.{Begins}
 
 pub record Printed (So : Type 0) (a b : List ℕ) : Type 0 where
   pub shows : So
-  pub begins : Begins a b
-
--- and a walk along keys, of which these are left
-pub record Walked (keys rest : List ℕ) (So : List ℕ → Type 0) (a b : List ℕ) : Type 0 where
-  pub passed : List ℕ
-  pub is : keys ≡ passed ++ rest
-  pub shows : So passed
   pub begins : Begins a b
 
 pub one_passed : (F : ℕ → List Line) (ks : List ℕ) (k : ℕ) (a b c : List ℕ) → Shows (flat_map F ks) a b → Shows (F k) b c → Shows (flat_map F (ks ++ k ∷ [])) a c

@@ -5,10 +5,10 @@ use Rattle.std.specs.List.{list_all}
 use Rattle.std.specs.Prelude.{◌&&◌, ◌||◌}
 use Rattle.std.specs.Ordering.{nat_cmp}
 use Rattle.std.specs.FinMap.Entries.{find}
-use Rattle.fuxi_terms.specs.Cluster.{ClusterRecord, has_machine, is_between, is_valid_job, is_valid_unit}
+use Rattle.fuxi_terms.specs.Cluster.{ClusterRecord, has_machine}
 use Rattle.fuxi_terms.specs.Jobs.{KnownJob, is_known, job_of}
 use Rattle.fuxi_terms.proofs.Booleans.{both_true, number_is}
-use Rattle.fuxi_terms.specs.Limits.{most_jobs, most_resources}
+use Rattle.fuxi_terms.specs.Limits.{most_jobs}
 use Rattle.fuxi_terms.specs.Lists.{below}
 use Rattle.fuxi_terms.specs.Numbers.{has_number}
 use Rattle.written_net.specs.Channels.{agent_id, app_id, party}

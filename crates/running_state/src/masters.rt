@@ -22,8 +22,8 @@ pub(crate) fn write_masters(masters: &Slots<Master>, out: &mut Vec<u8>) -> Resul
 {
     law::epochs_alike();
     law::parties_run();
-    for epoch in masters.numbers() {
-        let Some(master) = masters.get(*epoch) else {
+    for place in 0..masters.len() {
+        let Some(master) = masters.get(masters.number(place)) else {
             continue;
         };
         match write_master(master, out) {

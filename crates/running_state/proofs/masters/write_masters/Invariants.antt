@@ -1,12 +1,12 @@
-use Rattle.std.proofs.Common.{ℕ}
+use Rattle.std.proofs.Common.{take}
 use Rattle.std.specs.List.{flat_map}
 use Rattle.std.specs.Map.{keys_of}
 use Rattle.written_world.specs.World.{World}
 use Rattle.party_text.specs.Texts.{Shows}
 use Rattle.party_slots.specs.RunningMasters.{AreMastersOf}
 use Rattle.running_state.specs.Parts.{epoch_lines}
-use Rattle.running_state.proofs.Loops.{Walked}
+use Rattle.running_state.proofs.Loops.{Printed}
 use Rattle.running_state.proofs.masters.write_masters.Given as goal
 
-abbrev pub invariant-loop-epoch : goal.invariant-loop-epoch
-invariant-loop-epoch l = Walked (keys_of l.masters.slots) l.epoch-iterator (λ ks. (w : World) → AreMastersOf w l.masters → Shows (flat_map (epoch_lines w) ks) l.initial.out.items l.out.items) l.initial.out.items l.out.items
+abbrev pub invariant-loop-place : goal.invariant-loop-place
+invariant-loop-place l = Printed ((w : World) → AreMastersOf w l.masters → Shows (flat_map (epoch_lines w) (take l.place (keys_of l.masters.slots))) l.initial.out.items l.out.items) l.initial.out.items l.out.items

@@ -3,7 +3,7 @@ use Rattle.std.proofs.lemmas.Bool.{false≢true}
 use Rattle.fuxi_io.specs.Reading.{line_of, rest_of}
 use Rattle.fuxi_io.specs.WriteBuffers.{with_waiting}
 use Rattle.fuxi_io.specs.declared.lines.LineStop.TheVariants.{ReadFault}
-use Rattle.fuxi_io.specs.declared.status.LimitOf.TheVariants.{Records}
+use Rattle.fuxi_io.specs.declared.status.LimitOf.TheVariants.{Lines, Records}
 use Rattle.fuxi_io.specs.declared.status.Status.TheVariants.{WriteFault}
 use Rattle.fuxi_terms.specs.Limits.{most_lines}
 use Rattle.written_world.specs.World.{empty_world}
@@ -78,6 +78,9 @@ returns-in-Ok-End-clause-ended g c ready =
     end_along world_runner c.lines_are_taken.ensures (empty_world c.args.cluster) _ _ l.lines.number l.lines.ended (Stands l.running) _ _ mid
     (along_with world_runner (empty_world c.args.cluster) _ _ l.lines.number l.lines.ended (Stands l.running) _ _ _ mid along (λ before text h. appends_flushed before took mid waiting text flushed h))
     world_ends (ends_with_state c.lines_are_taken.ensures) c.next.new.self.pending source now _ status (rw c.in-Ok-End.field-0-is at c.in-Ok-End.ensures.gives) writes)
+
+pub returns-in-Ok-End-clause-limit : goal.returns-in-Ok-End-clause-limit
+returns-in-Ok-End-clause-limit g c none kept is = absurd (c.write_state-in-Ok-End.ensures.limit Lines kept is)
 
 pub returns-in-Ok-End-clause-records : goal.returns-in-Ok-End-clause-records
 returns-in-Ok-End-clause-records g c none kept = c.write_state-in-Ok-End.ensures.limit Records kept
