@@ -32,7 +32,7 @@ fn turn_master(run: Run, alloc: Global) -> Result<Run, WorldStop>
     ensures events { IfOk result (λ after. after.events ≤ run.events + 1) }
 {
     let event = order_event(Order::Turn, run.world().fence());
-    run.take_if(alloc, event)
+    run.take_if(alloc, &event)
 }
 
 fn turn_peers(run: Run, alloc: Global) -> Result<Run, WorldStop>

@@ -70,28 +70,27 @@ impl Run {
     }
 
     // An event, where there is one.
-    pub(crate) fn take_if(self, alloc: Global, event: Option<Event>) -> Result<Run, WorldStop>
-        requires line { IsLine event }
+    pub(crate) fn take_if(self, alloc: Global, event: &Option<Event>) -> Result<Run, WorldStop>
+        requires line { IsLine event.now }
         requires few { self.events < 2 ^ 29 }
-        ensures runs { Runs (all_taken (listed event)) self result }
+        ensures runs { Runs (all_taken (listed event.now)) self result }
         ensures events { IfOk result (λ after. after.events ≤ self.events + 1) }
     {
         match event {
             None => Ok(self),
-            Some(event) => self.take(alloc, &event),
+            Some(event) => self.take(alloc, event),
         }
     }
 
     // The events of a step.
-    pub(crate) fn take_choice(self, alloc: Global, choice: Choice) -> Result<Run, WorldStop>
-        requires lines { AreLines choice }
+    pub(crate) fn take_choice(self, alloc: Global, choice: &Choice) -> Result<Run, WorldStop>
+        requires lines { AreLines choice.now }
         requires few { self.events + 2 ≤ 2 ^ 29 }
-        ensures runs { Runs (all_taken (events_in choice)) self result }
+        ensures runs { Runs (all_taken (events_in choice.now)) self result }
         ensures events { IfOk result (λ after. after.events ≤ self.events + 2) }
     {
-        let Choice { before, event } = choice;
-        match self.take_if(alloc, before) {
-            Ok(run) => run.take_if(alloc, event),
+        match self.take_if(alloc, &choice.before) {
+            Ok(run) => run.take_if(alloc, &choice.event),
             Err(stop) => Err(stop),
         }
     }

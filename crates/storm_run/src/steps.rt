@@ -16,7 +16,7 @@ fn step(run: Run, alloc: Global, generator: &mut Generator) -> Result<Run, World
     ensures events { IfOk result (λ after. after.events ≤ run.events + 2) }
 {
     let choice = choose(run.world(), generator);
-    run.take_choice(alloc, choice)
+    run.take_choice(alloc, &choice)
 }
 
 // So many steps.

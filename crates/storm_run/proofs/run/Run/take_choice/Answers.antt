@@ -7,14 +7,14 @@ use Rattle.storm_run.proofs.run.Run.take_choice.Goals as goal
 
 pub returns-in-Ok-clause-runs : goal.returns-in-Ok-clause-runs
 returns-in-Ok-clause-runs c =
-    let xs = listed c.args.choice.before in
-    let ys = listed c.args.choice.event in
+    let xs = listed c.args.choice.now.before in
+    let ys = listed c.args.choice.now.event in
     ran_same (λ w. then_do (all_taken xs w) (all_taken ys)) (all_taken (xs ++ ys)) c.args.self c.take_if-in-Ok.result (λ w good stands. sym (taken_then xs ys w))
     (then_ran (all_taken xs) (λ w. all_taken ys) c.args.self c.in-Ok.run' c.take_if-in-Ok.result c.in-Ok.ensures.runs (λ w good stands. c.take_if-in-Ok.ensures.runs))
 
 pub returns-in-Err-clause-runs : goal.returns-in-Err-clause-runs
 returns-in-Err-clause-runs c =
-    let xs = listed c.args.choice.before in
-    let ys = listed c.args.choice.event in
+    let xs = listed c.args.choice.now.before in
+    let ys = listed c.args.choice.now.event in
     ran_same (λ w. then_do (all_taken xs w) (all_taken ys)) (all_taken (xs ++ ys)) c.args.self (Err c.in-Err.stop) (λ w good stands. sym (taken_then xs ys w))
     (then_stopped (all_taken xs) (λ w. all_taken ys) c.args.self c.in-Err.stop c.in-Err.ensures.runs)
