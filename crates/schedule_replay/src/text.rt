@@ -18,7 +18,10 @@ use crate::law;
 use crate::stop::WorldStop;
 use core_side::Reply;
 use party_ledgers::{Kind, Packet};
-use schedule_text::{Kind as PrintedKind, Output, Refusal, write_frame, write_output};
+use schedule_text::{
+    Kind as PrintedKind, Output, Refusal, write_frame, write_heard as write_heard_line,
+    write_output, write_sent as write_sent_line,
+};
 use schedule_unit::MachineNo;
 use std::alloc::Global;
 use wire_frames::frame_length;
@@ -63,16 +66,19 @@ fn write_sent(packet: &Packet, number: u64, out: &mut Vec<u8>) -> Result<(), Wor
     ensures err { IfErr result WantsMemory }
 {
     law::written_frame_lengths();
-    let line = Output::Sent {
+    match write_sent_line(
         number,
-        from: packet.from,
-        to: packet.to,
-        kind: printed_kind(packet.kind),
-        inc: packet.place.inc,
-        seq: packet.place.seq,
-        bytes: frame_length(packet) as u64,
-    };
-    write_line(&line, out)
+        &packet.from,
+        &packet.to,
+        printed_kind(packet.kind),
+        packet.place.inc,
+        packet.place.seq,
+        frame_length(packet) as u64,
+        out,
+    ) {
+        Ok(()) => Ok(()),
+        Err(_) => Err(WorldStop::OutOfMemory),
+    }
 }
 
 // The lines of the packets of a turn, of which the first has this number.
@@ -106,7 +112,10 @@ pub(crate) fn write_heard(
 {
     match heard {
         None => write_line(&Output::Lost(number), out),
-        Some(heard) => write_line(&Output::Heard(number, heard.fresh(), heard.what()), out),
+        Some(heard) => match write_heard_line(number, heard.fresh(), heard.what(), out) {
+            Ok(()) => Ok(()),
+            Err(_) => Err(WorldStop::OutOfMemory),
+        },
     }
 }
 

@@ -21,7 +21,8 @@ pub use event::{Event, LineFault};
 pub use head::{LineHead, head_of};
 pub use number::{NumberPlace, begins_with, numbers_at};
 pub use output::{
-    Kind, Output, push_heard, push_numbered, push_place, push_sent, write_frame, write_output,
+    Kind, Output, push_heard, push_numbered, push_place, push_sent, write_frame, write_heard,
+    write_output, write_sent,
 };
 pub use read::read_event;
 pub use refusal::Refusal;

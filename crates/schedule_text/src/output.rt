@@ -5,6 +5,7 @@ ghost use Rattle.hex.specs.Hex.{encode_lower};
 ghost use Rattle.schedule_text.specs.PrintedLines.{party_word, place_word, kind_word, what_word, frame_words, ended};
 ghost use Rattle.schedule_text.specs.Printing.{as_party, as_kind, is_of_packet, is_entry, output_words, output_text};
 ghost use Rattle.schedule_text.specs.Writing.{blanked, spaced, Begins};
+ghost use Rattle.schedule_text.specs.declared.output.Output.TheVariants.{Sent};
 
 use crate::refusal::{Refusal, push_refusal};
 use crate::tail::Tail;
@@ -89,7 +90,6 @@ pub fn write_output(line: &Output, out: &mut Vec<u8>) -> Result<(), OutOfMemory>
     ensures ok { OnOk result (out.new.items ≡ out.old.items ++ output_text line.now) }
     ensures err { OnErr result (out.new.items ≡ out.old.items) }
 {
-    let mut text = Tail::new();
     match line {
         Output::Sent {
             number,
@@ -99,10 +99,44 @@ pub fn write_output(line: &Output, out: &mut Vec<u8>) -> Result<(), OutOfMemory>
             inc,
             seq,
             bytes,
-        } => put_sent_line(&mut text, *number, from, to, *kind, *inc, *seq, *bytes),
-        Output::Heard(number, fresh, what) => put_heard_line(&mut text, *number, *fresh, what),
-        _ => return write_other(line, out),
+        } => write_sent(*number, from, to, *kind, *inc, *seq, *bytes, out),
+        Output::Heard(number, fresh, what) => write_heard(*number, *fresh, what, out),
+        _ => write_other(line, out),
     }
+}
+
+/// Appends the line of a packet of a turn, which [`Output::Sent`] names part by part, and a newline. Leaves `out` as it was where memory
+/// was refused.
+pub fn write_sent(
+    number: u64,
+    from: &Party,
+    to: &Party,
+    kind: Kind,
+    inc: u64,
+    seq: u64,
+    bytes: u64,
+    out: &mut Vec<u8>,
+) -> Result<(), OutOfMemory>
+    ensures ok { OnOk result (out.new.items ≡ out.old.items ++ output_text (Sent number from.now to.now kind inc seq bytes)) }
+    ensures err { OnErr result (out.new.items ≡ out.old.items) }
+{
+    let mut text = Tail::new();
+    put_sent_line(&mut text, number, from, to, kind, inc, seq, bytes);
+    Ok(out.extend_from_slice(text.as_slice())?)
+}
+
+/// Appends the line of a packet that was heard ([`Output::Heard`]), and a newline. Leaves `out` as it was where memory was refused.
+pub fn write_heard(
+    number: u64,
+    fresh: bool,
+    what: &What,
+    out: &mut Vec<u8>,
+) -> Result<(), OutOfMemory>
+    ensures ok { OnOk result (out.new.items ≡ out.old.items ++ ended (codes "heard" ∷ decimal number ∷ cond fresh (codes "new" ∷ what_word what.now ∷ []) (what_word what.now ∷ []))) }
+    ensures err { OnErr result (out.new.items ≡ out.old.items) }
+{
+    let mut text = Tail::new();
+    put_heard_line(&mut text, number, fresh, what);
     Ok(out.extend_from_slice(text.as_slice())?)
 }
 
