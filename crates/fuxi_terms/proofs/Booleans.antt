@@ -1,6 +1,7 @@
 -- Tests, and choices by a test.
-use Rattle.std.proofs.Common.{◌≡◌, ℕ, ◌≤◌, Bool, true, false, cond, not, nat_eq, refl, sym, arith}
+use Rattle.std.proofs.Common.{◌≡◌, ◌≢◌, ℕ, ◌*◌, ◌≤◌, Bool, true, false, cond, not, nat_eq, refl, sym, arith}
 use Rattle.std.specs.Prelude.{◌&&◌, ◌||◌}
+use Rattle.std.specs.Bool.{beq}
 use Rattle.std.proofs.lemmas.Bool.Decides.{nat_tests}
 
 pub both_true : (a b : Bool) → (a && b) ≡ true → (a ≡ true) × (b ≡ true)
@@ -27,6 +28,15 @@ pub not_true : (b : Bool) → not b ≡ true → b ≡ false
 not_true true e = cc
 not_true false e = refl
 
+pub not_both : (b : Bool) → b ≡ true → b ≡ false → ⊥
+not_both b t f = cc
+
+pub same_bool : (a b : Bool) → beq a b ≡ true → a ≡ b
+same_bool true true e = refl
+same_bool true false e = cc
+same_bool false true e = cc
+same_bool false false e = refl
+
 pub or_true : (a b : Bool) → (a || b) ≡ true → a ≡ false → b ≡ true
 or_true true b h f = cc
 or_true false b h f = h
@@ -42,6 +52,14 @@ or_right false b e = e
 pub or_false : (b : Bool) → (b || false) ≡ b
 or_false true = refl
 or_false false = refl
+
+pub or_none : (a b : Bool) → a ≡ false → b ≡ false → (a || b) ≡ false
+or_none true b e f = cc
+or_none false b e f = f
+
+pub and_with_true : (b : Bool) → (b && true) ≡ b
+and_with_true true = refl
+and_with_true false = refl
 
 pub and_false : (b : Bool) → (b && false) ≡ false
 and_false true = refl
@@ -60,6 +78,9 @@ same_tests false false f g = refl
 -- numbers that a test finds the same are the same
 pub number_is : (a b : ℕ) → nat_eq a b ≡ true → a ≡ b
 number_is a b e = grind (arith, nat_tests)
+
+pub numbers_differ : (a b : ℕ) → nat_eq a b ≡ false → a ≢ b
+numbers_differ a b e same = grind (arith, nat_tests, e, same)
 
 pub nat_itself : (n : ℕ) → nat_eq n n ≡ true
 nat_itself n = grind (arith, nat_tests)
@@ -81,3 +102,11 @@ either_case P false x y f g = g refl
 pub where_le : (b : Bool) (n : ℕ) → cond b n 0 ≤ n
 where_le true n = omega arith
 where_le false n = omega arith
+
+pub zero_either : (b : Bool) → ◌≡◌ {A = ℕ} (cond b 0 0) 0
+zero_either true = refl
+zero_either false = refl
+
+pub no_times_either : (b : Bool) (n : ℕ) → cond b (0 * n) 0 ≡ 0
+no_times_either true n = omega arith
+no_times_either false n = refl

@@ -33,3 +33,9 @@ repeated_last n x = ap (λ k. replicate k x) (add-one n) ∙ by n
     by : (n : ℕ) → replicate (suc n) x ≡ replicate n x ++ x ∷ []
     by zero = refl
     by (suc n) = ap (λ xs. x ∷ xs) (by n)
+
+-- what is repeated stands at each place where it is read past the end too
+pub repeated_at : {A : Type 0} (x : A) (n i : ℕ) → get_or (replicate n x) i x ≡ x
+repeated_at x zero i = refl
+repeated_at x (suc n) zero = refl
+repeated_at x (suc n) (suc i) = repeated_at x n i

@@ -22,3 +22,4 @@ pub mod NumbersSetLemmas
 pub mod MovesLemmas
 pub mod NumbersLemmas
 pub mod IndexedLists
+pub mod NumberOrders
