@@ -133,6 +133,21 @@ cleared_spot x y a u m k all stands waits touches table takes = record {
   counts = λ s. ap (λ (t : TableRecord). count spot_cmp t.entries s) table ∙ count_cleared x.table.entries a u m k all s;
 }
 
+-- where nothing is held there nothing has to go
+pub none_held : (x : AllotmentRecord) (a u m : ℕ) → AllWait x → held_on x.table.entries a u m ≡ 0 → Clears (λ s. nat_eq s.job a && (nat_eq s.unit u && nat_eq s.machine m)) x x
+none_held x a u m waits none = record {
+  stands = λ c M h. record { placing = retable x.table x.placer.seen c M h.placing };
+  waits = waits;
+  touches = untouched x;
+  table = refl;
+  takes = takes_none x;
+  counts = λ s. by s (nat_eq s.job a && (nat_eq s.unit u && nat_eq s.machine m)) refl;
+}
+  where
+    by : (s : Spot) (b : Bool) → (nat_eq s.job a && (nat_eq s.unit u && nat_eq s.machine m)) ≡ b → count spot_cmp x.table.entries s ≡ cond b 0 (count spot_cmp x.table.entries s)
+    by s true e = ap (count spot_cmp x.table.entries) (same_spot s (spot a u m) (tied _ (is_spot s a u m ∙ e))) ∙ none
+    by s false e = refl
+
 -- a job has at most 8 units
 pub table_units_few : (js : List JobRecord) → AreJobs js → (a : ℕ) → unit_count (as_known js) a ≤ 8
 table_units_few [] h a = omega arith

@@ -9,7 +9,7 @@ use Rattle.fuxi_terms.specs.declared.Key.{Key}
 use Rattle.fuxi_terms.specs.Keys.{Spot, Pair}
 use Rattle.fuxi_terms.specs.Lists.{below}
 use Rattle.fuxi_terms.proofs.Alls.{all_append, all_more, all_mapped, all_passed}
-use Rattle.fuxi_terms.proofs.Booleans.{both_true, number_is, nat_itself, or_right}
+use Rattle.fuxi_terms.proofs.Booleans.{both_true, number_is, nat_itself, or_right, eq_turned}
 use Rattle.fuxi_terms.proofs.Members.{In, sum_lt, sum_filter}
 use Rattle.fuxi_terms.specs.Tables.{Table}
 use Rattle.written_roles.specs.Masters.{out_of}
@@ -49,11 +49,8 @@ first_waits b table line s e = by (candidates_in b table 0 line) (all_candidates
     by (r ∷ rs) h e = let same : (least r rs).spot ≡ s = cc in let k = least_is (IsCandidate b table line) r rs h.0 h.1 in subst (IsWaiting b.asks table line) same (record { waits = k.waits; out = k.out })
 
 -- ---- the line after one grant: what is out falls at one pair alone
-both_same : (m n : ℕ) → nat_eq m n ≡ nat_eq n m
-both_same m n = grind (arith, nat_tests)
-
 pub pair_flipped : (a u b v : ℕ) → (nat_eq a b && nat_eq u v) ≡ (nat_eq b a && nat_eq v u)
-pair_flipped a u b v = λ i. both_same a b i && both_same u v i
+pair_flipped a u b v = λ i. eq_turned a b i && eq_turned u v i
 
 module _ (asks : ℕ → Key → ℕ) (old new : Table) (a u : ℕ) (others : (b v : ℕ) → (nat_eq b a && nat_eq v u) ≡ false → out_of asks new b v ≡ out_of asks old b v) where
   abbrev is_it : Pair → Bool

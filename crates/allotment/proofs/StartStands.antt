@@ -11,14 +11,10 @@ use Rattle.grant_table.specs.GrantTables.{TableRecord}
 use Rattle.place_pass.specs.Cells.{Cell, no_cell, asks_at, asks_in}
 use Rattle.place_pass.specs.Placers.{SeenRecord}
 use Rattle.allotment.specs.PlacingReads.{IsPlacing, record_of}
-
-none_at : {A : Type 0} (d : A) (n i : ℕ) → get_or (replicate n d) i d ≡ d
-none_at d zero i = refl
-none_at d (suc n) zero = refl
-none_at d (suc n) (suc i) = none_at d n i
+use Rattle.fuxi_terms.proofs.IndexedLists.{repeated_at}
 
 no_asks : (n a : ℕ) (k : Key) → asks_in (replicate n []) a k ≡ asks_at no_cell k
-no_asks n a k = ap (λ (xs : List Cell). asks_at (get_or xs k.unit no_cell) k) (none_at [] n a)
+no_asks n a k = ap (λ (xs : List Cell). asks_at (get_or xs k.unit no_cell) k) (repeated_at [] n a)
 
 abbrev pub first_table : ClusterRecord → TableRecord
 first_table c = record { cluster = c; jobs = []; entries = [] }
@@ -36,7 +32,7 @@ starts c n M jobs table demands line reported = record {
   near = λ a u m. no_asks n a (near_key u m) ∙ sym (nothing a (near_key u m));
   racks = λ a u r. no_asks n a (rack_key u r) ∙ sym (nothing a (rack_key u r));
   avoids = λ a u m. no_asks n a (avoid_key u m) ∙ sym (nothing a (avoid_key u m));
-  usable = λ m. none_at false (length c.machines) m ∙ sym (ap (λ rs. has_number m rs && not (has_number m M.bans)) reported);
+  usable = λ m. repeated_at false (length c.machines) m ∙ sym (ap (λ rs. has_number m rs && not (has_number m M.bans)) reported);
   line = sym line;
 }
   where

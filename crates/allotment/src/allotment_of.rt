@@ -195,6 +195,9 @@ impl Allotment {
         ensures { OnOk result (Clears (λ s. nat_eq s.job app.0 && (nat_eq s.unit unit.0 && nat_eq s.machine machine.0)) self.old self.new) }
     {
         let held = self.table.held_on(app, unit, machine);
+        if held == 0 {
+            return Ok(());
+        }
         self.take(app, unit, machine, held)?;
         Ok(())
     }

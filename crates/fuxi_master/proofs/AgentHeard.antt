@@ -7,7 +7,7 @@ use Rattle.fuxi_terms.specs.Numbers.{has_number}
 use Rattle.fuxi_terms.specs.Padded.{padded}
 use Rattle.fuxi_terms.specs.Rows.{IsRow, patched_row, row_total}
 use Rattle.fuxi_terms.specs.Vectors.{fits}
-use Rattle.fuxi_terms.proofs.Booleans.{both_true, not_false, nat_itself}
+use Rattle.fuxi_terms.proofs.Booleans.{both_true, not_false, nat_itself, not_true}
 use Rattle.fuxi_terms.proofs.Lists.{all_at}
 use Rattle.fuxi_terms.proofs.VectorLaws.{fits-zeros}
 use Rattle.cluster_desc.specs.declared.cluster.Machine.{Machine}
@@ -111,7 +111,7 @@ module _ (x : CoreRecord) (core : IsCore x) (m : ℕ) (old new : Down) (packet :
         let same = is r h in
         let parts = both_true (is_taken heard.what) (nat_eq new.incoming.received.epoch x.epoch && not test.reported) (sym made ∙ d) in
         let now = both_true (nat_eq new.incoming.received.epoch x.epoch) (not test.reported) parts.1 in
-        let unreported : test.reported ≡ false = by_not test.reported now.1 in
+        let unreported : test.reported ≡ false = not_true test.reported now.1 in
         let got = (heard_side x m old new packet heard test lt at hears to r h same).side.got in
         let none = (heard_alike r h).fits d in
         let little : excess_by test (report_of new.incoming.received) ≡ None = (λ i. excess_by (same i) (sym got i)) ∙ none in
@@ -122,10 +122,6 @@ module _ (x : CoreRecord) (core : IsCore x) (m : ℕ) (old new : Down) (packet :
               (λ n d other e t. absurd (let f : true ≡ false = sym t ∙ other in cc)) m d e (nat_itself m);
         }
       where
-        by_not : (b : Bool) → not b ≡ true → b ≡ false
-        by_not true e = cc
-        by_not false e = refl
-
         not_much : {A : Type 0} (b : Bool) (v : A) → cond b (Some v) None ≡ None → b ≡ false
         not_much true v e = cc
         not_much false v e = refl

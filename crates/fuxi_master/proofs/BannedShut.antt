@@ -5,9 +5,9 @@ use Rattle.std.proofs.lemmas.Bool.Decides.{nat_tests}
 use Rattle.std.proofs.lemmas.List.{get_or-replicate, get_or-set_other, get_or-set_same, length-replicate, length-set}
 use Rattle.fuxi_terms.specs.Lists.{below}
 use Rattle.fuxi_terms.specs.Numbers.{has_number}
-use Rattle.fuxi_terms.proofs.Booleans.{and_true, number_is}
+use Rattle.fuxi_terms.proofs.Booleans.{and_true, number_is, numbers_differ}
 use Rattle.written_roles.specs.Votes.{VotesRecord, is_shut}
-use Rattle.fuxi_master.proofs.Below.{all_below, apart, by_places, fails_below, none_below, same_below}
+use Rattle.fuxi_master.proofs.Below.{all_below, by_places, fails_below, none_below, same_below}
 
 -- there are no votes, and of the machines below a number those that are banned are shut
 pub record AreShut (bans : List ℕ) (machines n : ℕ) (v : VotesRecord) : Type 0 where
@@ -39,7 +39,7 @@ module _ (bans : List ℕ) (machines : ℕ) where
 
         at : (m : ℕ) → m < machines → (b : Bool) → nat_eq m n ≡ b → get_or (set v.shut n true) m false ≡ (nat_lt m (n + 1) && has_number m bans)
         at m lt true same = subst (λ k. get_or (set v.shut n true) k false ≡ (nat_lt k (n + 1) && has_number k bans)) (sym (number_is m n same)) here
-        at m lt false other = get_or-set_other v.shut n m true false (apart m n other) ∙ h.each m lt ∙ ap (λ t. t && has_number m bans) (same_below m n other)
+        at m lt false other = get_or-set_other v.shut n m true false (numbers_differ m n other) ∙ h.each m lt ∙ ap (λ t. t && has_number m bans) (same_below m n other)
 
     pub one_usable : has_number n bans ≡ false → AreShut bans machines (n + 1) v
     one_usable usable = record { none = h.none; long = h.long; each = λ m lt. h.each m lt ∙ fails_below (λ k. has_number k bans) n m usable }

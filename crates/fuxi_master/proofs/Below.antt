@@ -11,9 +11,6 @@ use Rattle.fuxi_terms.proofs.Lists.{length-below}
 pub same_below : (m n : ℕ) → nat_eq m n ≡ false → nat_lt m n ≡ nat_lt m (n + 1)
 same_below m n other = grind (arith, nat_tests, other)
 
-pub apart : (m n : ℕ) → nat_eq m n ≡ false → m ≢ n
-apart m n other = λ e. let same : nat_eq m n ≡ true = ap (nat_eq m) (sym e) ∙ nat_itself m in cc
-
 pub none_below : (m : ℕ) (b : Bool) → (nat_lt m 0 && b) ≡ false
 none_below m b = false_and (nat_lt m 0) b (let low : nat_lt m 0 ≡ false = grind (arith, nat_tests) in low)
 

@@ -9,7 +9,7 @@ use Rattle.fuxi_terms.specs.Jobs.{unit_count}
 use Rattle.fuxi_terms.specs.Keys.{Spot, spot_cmp}
 use Rattle.fuxi_terms.specs.Numbers.{has_number, without_number}
 use Rattle.fuxi_terms.proofs.Alls.{all_more}
-use Rattle.fuxi_terms.proofs.Booleans.{number_is, eq_turned, and_false, or_false}
+use Rattle.fuxi_terms.proofs.Booleans.{number_is, eq_turned, and_false, or_false, and_with_true}
 use Rattle.fuxi_terms.specs.Tables.{Table}
 use Rattle.written_roles.specs.Masters.{Master}
 use Rattle.grant_table.specs.GrantTables.{TableRecord, as_known, IsSound}
@@ -45,13 +45,9 @@ closed_now m reported old bans h k = ap (λ b. has_number k reported && not b) (
 
 opened_again : (m : ℕ) (reported old bans : List ℕ) → ((n : ℕ) → has_number n bans ≡ (not (nat_eq n m) && has_number n old)) → (k : ℕ) → (has_number k reported && not (has_number k bans)) ≡ cond (nat_eq m k) (has_number m reported) (has_number k reported && not (has_number k old))
 opened_again m reported old bans h k = ap (λ b. has_number k reported && not b) (h k ∙ ap (λ b. not b && has_number k old) (eq_turned k m)) ∙ elim (nat_eq m k) as (λ t. nat_eq m k ≡ t → (has_number k reported && not (not t && has_number k old)) ≡ cond t (has_number m reported) (has_number k reported && not (has_number k old))) [
-  | true ↦ λ e. and_true_is (has_number k reported) ∙ ap (λ j. has_number j reported) (sym (number_is m k e))
+  | true ↦ λ e. and_with_true (has_number k reported) ∙ ap (λ j. has_number j reported) (sym (number_is m k e))
   | false ↦ λ _. refl
 ] refl
-  where
-    and_true_is : (b : Bool) → (b && true) ≡ b
-    and_true_is true = refl
-    and_true_is false = refl
 
 -- of a machine that is not reported it does not matter
 same_open : (m : ℕ) (reported old bans : List ℕ) → has_number m reported ≡ false → ((n : ℕ) → nat_eq n m ≡ false → has_number n bans ≡ has_number n old) → (k : ℕ) → (has_number k reported && not (has_number k bans)) ≡ (has_number k reported && not (has_number k old))

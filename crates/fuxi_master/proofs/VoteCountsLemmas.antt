@@ -13,7 +13,7 @@ use Rattle.fuxi_terms.specs.Jobs.{KnownJob, has_ended, job_of, unit_count}
 use Rattle.fuxi_terms.specs.Lists.{below}
 use Rattle.fuxi_terms.specs.Numbers.{has_number}
 use Rattle.fuxi_terms.proofs.Alls.{all_filter, all_map, all_more}
-use Rattle.fuxi_terms.proofs.Booleans.{and_true, false_and, false_right, number_is}
+use Rattle.fuxi_terms.proofs.Booleans.{and_true, false_and, false_right, number_is, numbers_differ}
 use Rattle.fuxi_terms.proofs.Lists.{all_push, take_last}
 use Rattle.schedule_unit.specs.declared.party.UnitNo.{UnitNo}
 use Rattle.written_roles.specs.Masters.{avoids}
@@ -22,7 +22,7 @@ use Rattle.written_roles.specs.Votes.{VotesRecord, is_wanted, marks, most_votes,
 use Rattle.allotment.specs.PlacingReads.{IsPlacing}
 use Rattle.fuxi_master.specs.Cores.{CoreRecord, IsCore, StandsFor}
 use Rattle.fuxi_master.specs.VoteCounts.{AddsVotes, HasCounted, IsCounted, all_avoid, is_asked}
-use Rattle.fuxi_master.proofs.Below.{all_below, apart, by_places, fails_below, none_below, same_below}
+use Rattle.fuxi_master.proofs.Below.{all_below, by_places, fails_below, none_below, same_below}
 
 -- ---- one vote more on each machine that passes a test
 pub none_marked : (p : ℕ → Bool) (v : VotesRecord) → ((m : ℕ) → p m ≡ false) → AddsVotes p v v
@@ -60,7 +60,7 @@ module _ (p : ℕ → Bool) (n : ℕ) (v w : VotesRecord) (h : AddsVotes (λ m. 
 
       at : (m : ℕ) → m < length v.votes → (b : Bool) → nat_eq m n ≡ b → get_or (set w.votes n (votes_of w n + 1)) m 0 ≡ votes_of v m + cond (nat_lt m (n + 1) && p m) 1 0
       at m lt true same = subst (λ k. get_or (set w.votes n (votes_of w n + 1)) k 0 ≡ votes_of v k + cond (nat_lt k (n + 1) && p k) 1 0) (sym (number_is m n same)) here
-      at m lt false other = get_or-set_other w.votes n m (votes_of w n + 1) 0 (apart m n other) ∙ h.votes m lt ∙ ap (λ b. votes_of v m + cond (b && p m) 1 0) (same_below m n other)
+      at m lt false other = get_or-set_other w.votes n m (votes_of w n + 1) 0 (numbers_differ m n other) ∙ h.votes m lt ∙ ap (λ b. votes_of v m + cond (b && p m) 1 0) (same_below m n other)
 
   pub one_unmarked : p n ≡ false → AddsVotes (λ m. nat_lt m (n + 1) && p m) v w
   one_unmarked fails = record { long = h.long; votes = λ m lt. h.votes m lt ∙ ap (λ b. votes_of v m + cond b 1 0) (fails_below p n m fails); shut = h.shut }

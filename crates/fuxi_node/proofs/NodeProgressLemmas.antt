@@ -21,12 +21,6 @@ use Rattle.fuxi_node.specs.NodeRuns.{Node, Round, Played, Run, AtEnd, ended, the
 use Rattle.fuxi_node.specs.Visits.{Visit, RoseBy, WasAt}
 use Rattle.fuxi_node.specs.NodeProgress.{Taken, Says, WritesText, TakesQuietly, TakesLine}
 
-pub same_bool : (a b : Bool) → beq a b ≡ true → a ≡ b
-same_bool true true e = refl
-same_bool true false e = cc
-same_bool false true e = cc
-same_bool false false e = refl
-
 pub other_bool : (a b : Bool) → beq a b ≡ false → a ≢ b
 other_bool true true e = cc
 other_bool true false e = λ f. cc

@@ -26,6 +26,7 @@ use Rattle.written_world.specs.Outputs.{Line}
 use Rattle.grant_table.specs.GrantTables.{TableRecord, as_known, AreJobs, IsSound}
 use Rattle.master_text.specs.MasterLines.{grant_line, grant_lines}
 use Rattle.master_text.proofs.Walks.{Rising, is_among, rising_append, found_at, each_once}
+use Rattle.fuxi_terms.proofs.NumberOrders.{compared_itself, compared_less}
 
 -- Keys by number
 module _ {K : Type 0} (R : K → K → Ordering) (f : ℕ → List K) where
@@ -61,20 +62,14 @@ of_units machines units a = flat_map (on_machines machines a) (below (units a))
 abbrev spots : ℕ → (ℕ → ℕ) → ℕ → List Spot
 spots machines units jobs = flat_map (of_units machines units) (below jobs)
 
-tied_number : (n : ℕ) → nat_cmp n n ≡ Equal
-tied_number n = tied_itself nat_cmp_total n
-
-less_number : (i j : ℕ) → i < j → nat_cmp i j ≡ Less
-less_number i j lt = sym (nat_cmp_is i j Less lt)
-
 less_machine : (a u i j : ℕ) → i < j → spot_cmp (spot a u i) (spot a u j) ≡ Less
-less_machine a u i j lt = let x = tied_number a in let y = tied_number u in let z = less_number i j lt in λ t. ordering_then (x t) (ordering_then (y t) (z t))
+less_machine a u i j lt = let x = compared_itself a in let y = compared_itself u in let z = compared_less i j lt in λ t. ordering_then (x t) (ordering_then (y t) (z t))
 
 less_unit : (a i j m n : ℕ) → i < j → spot_cmp (spot a i m) (spot a j n) ≡ Less
-less_unit a i j m n lt = let x = tied_number a in let y = less_number i j lt in λ t. ordering_then (x t) (ordering_then (y t) (nat_cmp m n))
+less_unit a i j m n lt = let x = compared_itself a in let y = compared_less i j lt in λ t. ordering_then (x t) (ordering_then (y t) (nat_cmp m n))
 
 less_job : (i j u v m n : ℕ) → i < j → spot_cmp (spot i u m) (spot j v n) ≡ Less
-less_job i j u v m n lt = let x = less_number i j lt in λ t. ordering_then (x t) (ordering_then (nat_cmp u v) (nat_cmp m n))
+less_job i j u v m n lt = let x = compared_less i j lt in λ t. ordering_then (x t) (ordering_then (nat_cmp u v) (nat_cmp m n))
 
 spots_rise : (machines : ℕ) (units : ℕ → ℕ) (jobs : ℕ) → Rising spot_cmp (spots machines units jobs)
 spots_rise machines units jobs =

@@ -16,18 +16,7 @@ use Rattle.fuxi_terms.proofs.CountsLemmas.{both_true, lesser}
 use Rattle.fuxi_terms.proofs.Booleans.{eq_turned, nat_itself}
 use Rattle.party_slots.specs.SlotPlaces.{IsHere, IsGap}
 use Rattle.party_slots.specs.Slots.{SlotsRecord, entry_at, IsNow, IsGone}
-
-number_below : (a b : ℕ) → nat_cmp a b ≡ Less → a < b
-number_below a b is = subst (λ r. MatchOrdering r (a < b) (a ≡ b) (b < a)) is (ranks a b)
-
-same_numbers : (a b : ℕ) → nat_cmp a b ≡ Equal → a ≡ b
-same_numbers a b is = subst (λ r. MatchOrdering r (a < b) (a ≡ b) (b < a)) is (ranks a b)
-
-compared_less : (a b : ℕ) → a < b → nat_cmp a b ≡ Less
-compared_less a b h = sym (nat_cmp_is a b Less h)
-
-compared_greater : (a b : ℕ) → b < a → nat_cmp a b ≡ Greater
-compared_greater a b h = sym (nat_cmp_is a b Greater h)
+use Rattle.fuxi_terms.proofs.NumberOrders.{number_below, same_numbers, compared_less, compared_greater}
 
 module _ {X : Type 0} where
   -- an entry of a list, below whose numbers x is

@@ -10,7 +10,7 @@ use Rattle.fuxi_terms.specs.Counts.{count, set_count}
 use Rattle.fuxi_terms.specs.Keys.{Spot, spot_cmp, Pair}
 use Rattle.fuxi_terms.specs.Tables.{spot, held_on, held_in, total_by, usage_by, Table}
 use Rattle.fuxi_terms.specs.TallyKeys.{near_key, rack_key}
-use Rattle.fuxi_terms.proofs.Booleans.{both_true, and_true, number_is}
+use Rattle.fuxi_terms.proofs.Booleans.{both_true, and_true, number_is, no_times_either, nat_itself, zero_either}
 use Rattle.fuxi_terms.proofs.CountsLemmas.{tied, count-set_count}
 use Rattle.fuxi_terms.proofs.KeyOrders.{spot_total, same_spot}
 use Rattle.fuxi_terms.proofs.Members.{each_place, each_from}
@@ -57,22 +57,14 @@ module _ (es : Table) (s : Spot) (n : ℕ) (sorted : T (is_sorted spot_cmp es)) 
   abbrev then : Table
   then = set_count spot_cmp es s n
 
-  nothing : (t : Bool) (k : ℕ) → cond t (0 * k) 0 ≡ 0
-  nothing true k = omega arith
-  nothing false k = refl
-
-  none : (t : Bool) → ◌≡◌ {A = ℕ} (cond t 0 0) 0
-  none true = refl
-  none false = refl
-
   total_then : (sizes : ℕ → ℕ → ℕ → ℕ) (m i : ℕ) → total_by sizes m i then + cond (nat_eq s.machine m) (count spot_cmp es s * sizes s.job s.unit i) 0 ≡ total_by sizes m i es + cond (nat_eq s.machine m) (n * sizes s.job s.unit i) 0
-  total_then sizes m i = sum_set (λ q k. cond (nat_eq q.machine m) (k * sizes q.job q.unit i) 0) (λ q. nothing (nat_eq q.machine m) (sizes q.job q.unit i)) s n es sorted
+  total_then sizes m i = sum_set (λ q k. cond (nat_eq q.machine m) (k * sizes q.job q.unit i) 0) (λ q. no_times_either (nat_eq q.machine m) (sizes q.job q.unit i)) s n es sorted
 
   usage_then : (groups : ℕ → ℕ) (sizes : ℕ → ℕ → ℕ → ℕ) (g i : ℕ) → usage_by groups sizes g i then + cond (nat_eq (groups s.job) g) (count spot_cmp es s * sizes s.job s.unit i) 0 ≡ usage_by groups sizes g i es + cond (nat_eq (groups s.job) g) (n * sizes s.job s.unit i) 0
-  usage_then groups sizes g i = sum_set (λ q k. cond (nat_eq (groups q.job) g) (k * sizes q.job q.unit i) 0) (λ q. nothing (nat_eq (groups q.job) g) (sizes q.job q.unit i)) s n es sorted
+  usage_then groups sizes g i = sum_set (λ q k. cond (nat_eq (groups q.job) g) (k * sizes q.job q.unit i) 0) (λ q. no_times_either (nat_eq (groups q.job) g) (sizes q.job q.unit i)) s n es sorted
 
   rack_then : (c : ClusterRecord) (a u r : ℕ) → held_in c then a u r + cond (nat_eq s.job a && (nat_eq s.unit u && nat_eq (rack_of c s.machine) r)) (count spot_cmp es s) 0 ≡ held_in c es a u r + cond (nat_eq s.job a && (nat_eq s.unit u && nat_eq (rack_of c s.machine) r)) n 0
-  rack_then c a u r = sum_set (λ q k. cond (nat_eq q.job a && (nat_eq q.unit u && nat_eq (rack_of c q.machine) r)) k 0) (λ q. none (nat_eq q.job a && (nat_eq q.unit u && nat_eq (rack_of c q.machine) r))) s n es sorted
+  rack_then c a u r = sum_set (λ q k. cond (nat_eq q.job a && (nat_eq q.unit u && nat_eq (rack_of c q.machine) r)) k 0) (λ q. zero_either (nat_eq q.job a && (nat_eq q.unit u && nat_eq (rack_of c q.machine) r))) s n es sorted
 
   at_other : (q : Spot) → eq_by_cmp spot_cmp q s ≡ false → count spot_cmp then q ≡ count spot_cmp es q
   at_other q f = count-set_count spot_total es s n q ∙ ap (λ b. cond b n (count spot_cmp es q)) f
@@ -216,13 +208,10 @@ module _ (es : Table) (s : Spot) (n : ℕ) (sorted : T (is_sorted spot_cmp es)) 
       room = room_away b p;
       allowed = allowed_less b.cluster b.groups b.sizes es then p.0 p.1 (λ i. usage_other b.groups b.sizes (b.groups p.0) i f);
       level = level_same b p (rack_other b.cluster p.0 p.1 (rack_of b.cluster m) (elim (nat_eq s.job p.0) as (λ t. nat_eq s.job p.0 ≡ t → (t && nat_eq s.unit p.1) ≡ false) [
-        | true ↦ λ t. let no : false ≡ true = sym f ∙ subst (λ z. nat_eq (b.groups s.job) (b.groups z) ≡ true) (number_is s.job p.0 t) (itself (b.groups s.job)) in cc
+        | true ↦ λ t. let no : false ≡ true = sym f ∙ subst (λ z. nat_eq (b.groups s.job) (b.groups z) ≡ true) (number_is s.job p.0 t) (nat_itself (b.groups s.job)) in cc
         | false ↦ λ _. refl
       ] refl));
     }
-      where
-        itself : (k : ℕ) → nat_eq k k ≡ true
-        itself k = grind (arith, nat_tests)
 
     -- a pair of the unit's group, on a machine that does not note the group
     same_group : (b : Board) (p : Pair) (bound : Option (List ℕ)) (groups : List Bool) (turn : ℕ) → get_or groups (b.groups p.0) false ≡ false

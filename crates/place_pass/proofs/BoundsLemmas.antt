@@ -1,17 +1,18 @@
 -- What a mark says of a pair, and what keeps it.
 use Rattle.std.proofs.Common.{◌≡◌, ℕ, zero, suc, ◌-◌, ◌<◌, ◌≤◌, Bool, true, false, cond, not, nat_lt, List, [], ◌∷◌, get_or, refl, sym, ◌∙◌, ap, subst, arith, inl, inr, Option, None, Some}
-use Rattle.std.specs.Prelude.{◌&&◌, ◌||◌, ◌==◌}
+use Rattle.std.specs.Prelude.{◌&&◌, ◌||◌}
 use Rattle.std.specs.Ordering.{nat_cmp, is_lt, ordering_then}
 use Rattle.std.specs.declared.cmp.Ordering.TheVariants.{Less, Equal, Greater}
 use Rattle.std.specs.Cmp.Lexicographic.{slice_cmp}
 use Rattle.std.proofs.lemmas.Bool.{cases_lt}
 use Rattle.std.proofs.lemmas.Bool.Decides.{nat_tests}
 use Rattle.fuxi_terms.specs.Keys.{Pair}
-use Rattle.fuxi_terms.proofs.Booleans.{both_true, and_true}
+use Rattle.fuxi_terms.proofs.Booleans.{both_true, and_true, or_left}
 use Rattle.fuxi_terms.specs.Tables.{Table}
 use Rattle.written_roles.specs.Masters.{level_of}
 use Rattle.written_roles.specs.Placing.{Board, accepts_in, has_room_in, is_allowed_in}
 use Rattle.place_pass.specs.Bounds.{MarkRecord, zero_rank, rank_at, comes_before, is_bound, key_of, limited_mark, IsBounded, lowered}
+use Rattle.fuxi_terms.proofs.NumberOrders.{compared_less, compared_greater}
 
 -- ---- ranks
 same_first : (x : ℕ) (r s b : List ℕ) → ((c : List ℕ) → not (comes_before r c) ≡ true → not (comes_before s c) ≡ true) → not (comes_before (x ∷ r) b) ≡ true → not (comes_before (x ∷ s) b) ≡ true
@@ -22,21 +23,12 @@ same_first x r s (y ∷ ys) h e = elim (nat_cmp x y) as (λ o. not (is_lt (order
   | Greater ↦ λ e. e
 ] e
 
-pub is_less : (x y : ℕ) → x < y → nat_cmp x y ≡ Less
-is_less x y lt = let t : nat_lt x y ≡ true = grind (arith, nat_tests, lt) in ap (λ b. cond b Less (cond (x == y) Equal Greater)) t
-
-pub is_greater : (x y : ℕ) → y < x → nat_cmp x y ≡ Greater
-is_greater x y lt =
-    let t : nat_lt x y ≡ false = grind (arith, nat_tests, lt) in
-    let e : (x == y) ≡ false = grind (arith, nat_tests, lt) in
-    ap (λ b. cond b Less (cond (x == y) Equal Greater)) t ∙ ap (λ b. cond b Equal Greater) e
-
 less_second : (v w : ℕ) (r b : List ℕ) → v ≤ w → not (comes_before (v ∷ r) b) ≡ true → not (comes_before (w ∷ r) b) ≡ true
 less_second v w r [] le e = refl
 less_second v w r (y ∷ ys) le e = elim (cases_lt y w) [
-  | inl lt ↦ ap (λ o. not (is_lt (ordering_then o (slice_cmp nat_cmp r ys)))) (is_greater w y lt)
+  | inl lt ↦ ap (λ o. not (is_lt (ordering_then o (slice_cmp nat_cmp r ys)))) (compared_greater w y lt)
   | inr ge ↦ elim (cases_lt v y) [
-    | inl lt ↦ let f : false ≡ true = sym (ap (λ o. not (is_lt (ordering_then o (slice_cmp nat_cmp r ys)))) (is_less v y lt)) ∙ e in cc
+    | inl lt ↦ let f : false ≡ true = sym (ap (λ o. not (is_lt (ordering_then o (slice_cmp nat_cmp r ys)))) (compared_less v y lt)) ∙ e in cc
     | inr same ↦ let is : v ≡ w = omega (arith, le, ge, same) in subst (λ z. not (comes_before (z ∷ r) (y ∷ ys)) ≡ true) is e
   ]
 ]
@@ -47,9 +39,9 @@ bound_worse None l v w t le e = e
 bound_worse (Some b) l v w t le e = same_first l (v ∷ t ∷ []) (w ∷ t ∷ []) b (λ c. less_second v w (t ∷ []) c le) e
 
 pub zero_bounds : (x y z : ℕ) → is_bound (Some zero_rank) (x ∷ y ∷ z ∷ []) ≡ true
-zero_bounds (suc x) y z = ap (λ o. not (is_lt (ordering_then o (slice_cmp nat_cmp (y ∷ z ∷ []) (0 ∷ 0 ∷ []))))) (is_greater (suc x) 0 (omega arith))
-zero_bounds zero (suc y) z = ap (λ o. not (is_lt (ordering_then o (slice_cmp nat_cmp (z ∷ []) (0 ∷ []))))) (is_greater (suc y) 0 (omega arith))
-zero_bounds zero zero (suc z) = ap (λ o. not (is_lt (ordering_then o Equal))) (is_greater (suc z) 0 (omega arith))
+zero_bounds (suc x) y z = ap (λ o. not (is_lt (ordering_then o (slice_cmp nat_cmp (y ∷ z ∷ []) (0 ∷ 0 ∷ []))))) (compared_greater (suc x) 0 (omega arith))
+zero_bounds zero (suc y) z = ap (λ o. not (is_lt (ordering_then o (slice_cmp nat_cmp (z ∷ []) (0 ∷ []))))) (compared_greater (suc y) 0 (omega arith))
+zero_bounds zero zero (suc z) = ap (λ o. not (is_lt (ordering_then o Equal))) (compared_greater (suc z) 0 (omega arith))
 zero_bounds zero zero zero = refl
 
 -- ---- a mark whose bound is 0 says nothing
@@ -127,16 +119,12 @@ pub bounded_apart : (b b' : Board) (es es' : Table) (p : Pair) (m : ℕ) (bound 
     → level_of b.cluster b.asks es p.0 p.1 m ≤ level_of b'.cluster b'.asks es' p.0 p.1 m
     → get_or groups (b.groups p.0) false ≡ false → IsBounded b es bound groups turn p m → IsBounded b' es' bound groups turn p m
 bounded_apart b b' es es' p m bound groups turn late u r level g h = record {
-  bounded = λ u' r'. left (is_bound bound (rank_at b' es' turn p m)) (get_or groups (b'.groups p.0) false && not (is_allowed_in b'.cluster b'.groups b'.sizes es' p.0 p.1))
+  bounded = λ u' r'. or_left (is_bound bound (rank_at b' es' turn p m)) (get_or groups (b'.groups p.0) false && not (is_allowed_in b'.cluster b'.groups b'.sizes es' p.0 p.1))
       (subst (λ x. is_bound bound ((9 - x) ∷ level_of b'.cluster b'.asks es' p.0 p.1 m ∷ turn ∷ []) ≡ true) (sym late)
       (bound_worse bound (9 - b.priorities p.0 p.1) (level_of b.cluster b.asks es p.0 p.1 m) (level_of b'.cluster b'.asks es' p.0 p.1 m) turn level
       (only (is_bound bound (rank_at b es turn p m)) (get_or groups (b.groups p.0) false) (not (is_allowed_in b.cluster b.groups b.sizes es p.0 p.1)) g (h.bounded (u u') (r r')))));
 }
   where
-    left : (x y : Bool) → x ≡ true → (x || y) ≡ true
-    left true y e = refl
-    left false y e = cc
-
     only : (x y z : Bool) → y ≡ false → (x || (y && z)) ≡ true → x ≡ true
     only true y z f e = refl
     only false true z f e = cc

@@ -12,25 +12,25 @@ use Rattle.fuxi_terms.specs.Counts.{count, AreCounts}
 use Rattle.fuxi_terms.specs.declared.Key.{Key}
 use Rattle.fuxi_terms.specs.Keys.{key_cmp}
 use Rattle.fuxi_terms.specs.TallyKeys.{greatest_demand, key, want_key, near_key, rack_key, avoid_key}
-use Rattle.fuxi_terms.proofs.Booleans.{number_is, or_false, both_false}
+use Rattle.fuxi_terms.proofs.Booleans.{number_is, or_false, both_false, or_none}
 use Rattle.fuxi_terms.proofs.KeyOrders.{key_total, same_key}
 use Rattle.fuxi_terms.proofs.Lists.{take_last}
 use Rattle.place_pass.specs.Cells.{Cell, no_cell, asks_at, asks_in, taken, taken_all, numbers_at, racks_at, is_gone, any_gone, asks_more, any_more}
 use Rattle.place_pass.specs.Placers.{is_named, is_there}
 use Rattle.place_pass.specs.DemandScopes.{AsksSameBut, IsAlike, IsWritten, IsWrittenIn, asked_by, is_more_at}
 use Rattle.place_pass.proofs.CellsLemmas.{length-taken_all, get_or-taken_all}
-use Rattle.place_pass.proofs.DemandWalksLemmas.{equal}
 use Rattle.place_pass.proofs.IdleKept.{any_none, any_one}
 use Rattle.place_pass.proofs.PlacersLemmas.{asks_taken}
 use Rattle.place_pass.proofs.Places.{counted_at, counted_long, counted_past}
-use Rattle.place_pass.proofs.WaitingLinesLemmas.{any_append, either_one, or_none}
+use Rattle.place_pass.proofs.WaitingLinesLemmas.{any_append, either_one}
+use Rattle.fuxi_terms.proofs.CountsLemmas.{tied}
 
 -- ---- keys
 pub key_itself : (k : Key) → eq_by_cmp key_cmp k k ≡ true
 key_itself k = ap is_eq (tied_itself key_total k)
 
 pub key_is : (j k : Key) → eq_by_cmp key_cmp j k ≡ true → j ≡ k
-key_is j k e = same_key j k (equal (key_cmp j k) e)
+key_is j k e = same_key j k (tied (key_cmp j k) e)
 
 -- keys of one kind and unit that differ have other numbers
 pub number_apart : (j k : Key) → eq_by_cmp key_cmp j k ≡ false → j.what ≡ k.what → j.unit ≡ k.unit → j.number ≢ k.number

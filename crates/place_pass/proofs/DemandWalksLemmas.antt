@@ -13,25 +13,20 @@ use Rattle.fuxi_terms.specs.declared.Key.{Key}
 use Rattle.fuxi_terms.specs.Keys.{key_cmp}
 use Rattle.fuxi_terms.specs.Lists.{below}
 use Rattle.fuxi_terms.specs.TallyKeys.{key}
-use Rattle.fuxi_terms.proofs.CountsLemmas.{both_true, find_below_head}
+use Rattle.fuxi_terms.proofs.CountsLemmas.{both_true, find_below_head, lesser, tied}
 use Rattle.fuxi_terms.proofs.KeyOrders.{key_total, same_key}
 use Rattle.place_pass.specs.DemandWalks.{IsPast}
-use Rattle.place_pass.proofs.BoundsLemmas.{is_less}
-use Rattle.place_pass.proofs.FirstByTurn.{is_same}
 use Rattle.place_pass.proofs.WaitingLinesLemmas.{any_append}
+use Rattle.fuxi_terms.proofs.Booleans.{or_false}
+use Rattle.fuxi_terms.proofs.NumberOrders.{compared_less, compared_itself}
 
-tied : (k : Key) → key_cmp k k ≡ Equal
-tied k = ap (λ o. ordering_then o (ordering_then (nat_cmp k.unit k.unit) (nat_cmp k.number k.number))) (is_same k.what) ∙ ap (λ o. ordering_then o (nat_cmp k.number k.number)) (is_same k.unit) ∙ is_same k.number
+key_tied : (k : Key) → key_cmp k k ≡ Equal
+key_tied k = ap (λ o. ordering_then o (ordering_then (nat_cmp k.unit k.unit) (nat_cmp k.number k.number))) (compared_itself k.what) ∙ ap (λ o. ordering_then o (nat_cmp k.number k.number)) (compared_itself k.unit) ∙ compared_itself k.number
 
 sorted_rest : (n : ℕ) (es : List (Key × ℕ)) → T (is_sorted key_cmp es) → T (is_sorted key_cmp (drop n es))
 sorted_rest zero es h = h
 sorted_rest (suc n) [] h = tt
 sorted_rest (suc n) (e ∷ es) h = sorted_rest n es (both_true (below_all key_cmp e.0 es) _ h).1
-
-pub equal : (o : Ordering) → is_eq o ≡ true → o ≡ Equal
-equal Less e = cc
-equal Equal e = refl
-equal Greater e = cc
 
 greater : (o : Ordering) → is_eq o ≡ false → is_lt o ≡ false → o ≡ Greater
 greater Less e l = cc
@@ -55,11 +50,6 @@ pub passes : (es : List (Key × ℕ)) (at : ℕ) (k : Key) (e : Key × ℕ) (res
 passes es at k e rest is next less past = λ q h.
     past q h ∙ ap (λ l. count key_cmp l q) is ∙ ap (λ b. unwrap_or (cond b (Some e.1) (find key_cmp q rest)) 0) (not_tied q k e.0 less h) ∙ sym (ap (λ l. count key_cmp l q) next)
 
-lesser : (o : Ordering) → T (is_lt o) → o ≡ Less
-lesser Less t = refl
-lesser Equal t = absurd t
-lesser Greater t = absurd t
-
 -- a key that is below all entries is below each
 below_each : (k : Key) (n : ℕ) (es : List (Key × ℕ)) (d : Key × ℕ) → T (below_all key_cmp k es) → n < length es → key_cmp k (get_or es n d).0 ≡ Less
 below_each k n [] d h lt = absurd (omega (arith, lt))
@@ -81,7 +71,7 @@ passes_all n es k d sorted lt less = subst (λ at. IsPast es at k) (sym (add-one
 
 -- a key of a greater number comes later
 less_key : (what unit n m : ℕ) → n < m → key_cmp (key what unit n) (key what unit m) ≡ Less
-less_key what unit n m lt = ap (λ o. ordering_then o (ordering_then (nat_cmp unit unit) (nat_cmp n m))) (is_same what) ∙ ap (λ o. ordering_then o (nat_cmp n m)) (is_same unit) ∙ is_less n m lt
+less_key what unit n m lt = ap (λ o. ordering_then o (ordering_then (nat_cmp unit unit) (nat_cmp n m))) (compared_itself what) ∙ ap (λ o. ordering_then o (nat_cmp n m)) (compared_itself unit) ∙ compared_less n m lt
 
 pub later_past : (es : List (Key × ℕ)) (at what unit n m : ℕ) → n < m → IsPast es at (key what unit n) → IsPast es at (key what unit m)
 later_past es at what unit n m lt past = λ q h. past q (by q (key_cmp q (key what unit n)) refl h)
@@ -104,12 +94,12 @@ pub stands_nowhere : (es : List (Key × ℕ)) (at : ℕ) (k : Key) → drop at e
 stands_nowhere es at k is itself past = past k itself ∙ ap (λ l. count key_cmp l k) is
 
 pub itself : (k : Key) → is_lt (key_cmp k k) ≡ false
-itself k = ap is_lt (tied k)
+itself k = ap is_lt (key_tied k)
 
 pub found_here : (es : List (Key × ℕ)) (at : ℕ) (k : Key) (d : Key × ℕ) → at < length es → is_eq (key_cmp (get_or es at d).0 k) ≡ true → IsPast es at k → count key_cmp es k ≡ (get_or es at d).1
 found_here es at k d lt tie past =
-    let is : (get_or es at d).0 ≡ k = same_key (get_or es at d).0 k (equal (key_cmp (get_or es at d).0 k) tie) in
-    stands_here es at k (get_or es at d) (drop (at + 1) es) (drop_more es at d lt) (ap (λ x. key_cmp k x) is ∙ tied k) (itself k) past
+    let is : (get_or es at d).0 ≡ k = same_key (get_or es at d).0 k (tied (key_cmp (get_or es at d).0 k) tie) in
+    stands_here es at k (get_or es at d) (drop (at + 1) es) (drop_more es at d lt) (ap (λ x. key_cmp k x) is ∙ key_tied k) (itself k) past
 
 pub found_later : (es : List (Key × ℕ)) (at : ℕ) (k : Key) (d : Key × ℕ) → T (is_sorted key_cmp es) → at < length es → is_eq (key_cmp (get_or es at d).0 k) ≡ false → is_lt (key_cmp (get_or es at d).0 k) ≡ false → IsPast es at k → count key_cmp es k ≡ 0
 found_later es at k d sorted lt other above past =
@@ -119,7 +109,3 @@ found_later es at k d sorted lt other above past =
 -- one number more that was looked at
 pub one_more : (f : ℕ → Bool) (n : ℕ) → list_any f (below (n + 1)) ≡ (list_any f (below n) || f n)
 one_more f n = ap (λ k. list_any f (below k)) (add-one n) ∙ any_append f (below n) (n ∷ []) ∙ ap (λ b. list_any f (below n) || b) (or_false (f n))
-  where
-    or_false : (b : Bool) → (b || false) ≡ b
-    or_false true = refl
-    or_false false = refl

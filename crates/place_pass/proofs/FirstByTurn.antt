@@ -1,9 +1,8 @@
 -- The order of turns along a line is the order of the places, so the pair of least rank by turn is the first.
-use Rattle.std.proofs.Common.{◌≡◌, ℕ, zero, suc, ◌+◌, ◌-◌, ◌<◌, Bool, true, false, cond, not, nat_lt, List, [], ◌∷◌, ◌++◌, length, map, filter, slice_get, refl, sym, ◌∙◌, ap, subst, arith, inl, inr, ◌⊎◌, None, Some}
-use Rattle.std.specs.Prelude.{◌&&◌, ◌||◌, ◌==◌}
+use Rattle.std.proofs.Common.{◌≡◌, ℕ, zero, suc, ◌+◌, ◌-◌, ◌<◌, Bool, true, false, cond, not, List, [], ◌∷◌, ◌++◌, length, map, filter, slice_get, refl, sym, ◌∙◌, ap, subst, arith, inl, inr, ◌⊎◌, None, Some}
+use Rattle.std.specs.Prelude.{◌&&◌, ◌||◌}
 use Rattle.std.specs.List.{AllByRecursion}
 use Rattle.std.specs.Ordering.{nat_cmp, is_lt, ordering_then}
-use Rattle.std.specs.declared.cmp.Ordering.TheVariants.{Less, Equal, Greater}
 use Rattle.std.specs.Cmp.Lexicographic.{slice_cmp}
 use Rattle.std.proofs.lemmas.Bool.{cases_lt}
 use Rattle.std.proofs.lemmas.Bool.Decides.{nat_tests}
@@ -11,7 +10,7 @@ use Rattle.fuxi_terms.specs.Keys.{Pair}
 use Rattle.fuxi_terms.specs.Lists.{below}
 use Rattle.fuxi_terms.specs.Tables.{spot, Table}
 use Rattle.fuxi_terms.proofs.Alls.{all_append}
-use Rattle.fuxi_terms.proofs.Booleans.{both_true, and_true, or_right}
+use Rattle.fuxi_terms.proofs.Booleans.{both_true, and_true, or_right, not_true}
 use Rattle.fuxi_terms.proofs.Lists.{all_at}
 use Rattle.fuxi_terms.proofs.Members.{In, in_below, in_left, in_right}
 use Rattle.written_roles.specs.Masters.{level_of}
@@ -21,32 +20,26 @@ use Rattle.place_pass.specs.Best.{spot_of}
 use Rattle.place_pass.specs.declared.search.Found.{Found}
 use Rattle.place_pass.specs.Sights.{rank_with, IsFound, IsLeast}
 use Rattle.place_pass.specs.WaitingLines.{same_pair}
-use Rattle.place_pass.proofs.BoundsLemmas.{is_less}
 use Rattle.place_pass.proofs.FirstOfLine.{first_is}
 use Rattle.place_pass.proofs.WaitingLinesLemmas.{pair_self}
 use Rattle.place_pass.proofs.FirstIsGrantable.{all_below}
+use Rattle.fuxi_terms.proofs.NumberOrders.{compared_itself, compared_less}
 
 -- ---- one place of a rank after another
-pub is_same : (x : ℕ) → nat_cmp x x ≡ Equal
-is_same x =
-    let t : nat_lt x x ≡ false = grind (arith, nat_tests) in
-    let e : (x == x) ≡ true = grind (arith, nat_tests) in
-    ap (λ b. cond b Less (cond (x == x) Equal Greater)) t ∙ ap (λ b. cond b Equal Greater) e
-
 step : (x y : ℕ) (r s : List ℕ) → comes_before (x ∷ r) (y ∷ s) ≡ false → (y < x) ⊎ ((x ≡ y) × (comes_before r s ≡ false))
 step x y r s e = elim (cases_lt y x) [
   | inl lt ↦ inl lt
   | inr le ↦ elim (cases_lt x y) [
-    | inl lt ↦ let f : true ≡ false = sym (ap (λ o. is_lt (ordering_then o (slice_cmp nat_cmp r s))) (is_less x y lt)) ∙ e in cc
-    | inr ge ↦ let same : x ≡ y = omega (arith, le, ge) in inr (same, sym (ap (λ o. is_lt (ordering_then o (slice_cmp nat_cmp r s))) (is_same y)) ∙ subst (λ z. comes_before (z ∷ r) (y ∷ s) ≡ false) same e)
+    | inl lt ↦ let f : true ≡ false = sym (ap (λ o. is_lt (ordering_then o (slice_cmp nat_cmp r s))) (compared_less x y lt)) ∙ e in cc
+    | inr ge ↦ let same : x ≡ y = omega (arith, le, ge) in inr (same, sym (ap (λ o. is_lt (ordering_then o (slice_cmp nat_cmp r s))) (compared_itself y)) ∙ subst (λ z. comes_before (z ∷ r) (y ∷ s) ≡ false) same e)
   ]
 ]
 
 pub less_first : (x y : ℕ) (r s : List ℕ) → y < x → comes_before (y ∷ s) (x ∷ r) ≡ true
-less_first x y r s lt = ap (λ o. is_lt (ordering_then o (slice_cmp nat_cmp s r))) (is_less y x lt)
+less_first x y r s lt = ap (λ o. is_lt (ordering_then o (slice_cmp nat_cmp s r))) (compared_less y x lt)
 
 pub less_rest : (x y : ℕ) (r s : List ℕ) → x ≡ y → comes_before s r ≡ true → comes_before (y ∷ s) (x ∷ r) ≡ true
-less_rest x y r s e h = subst (λ z. comes_before (y ∷ s) (z ∷ r) ≡ true) (sym e) (ap (λ o. is_lt (ordering_then o (slice_cmp nat_cmp s r))) (is_same y) ∙ h)
+less_rest x y r s e h = subst (λ z. comes_before (y ∷ s) (z ∷ r) ≡ true) (sym e) (ap (λ o. is_lt (ordering_then o (slice_cmp nat_cmp s r))) (compared_itself y) ∙ h)
 
 -- a rank that does not come before another by turn does not by place
 pub by_place : (l v t m p l' v' t' m' p' : ℕ) → (t' < t → p' < p) → (t ≡ t' → p ≡ p') → comes_before (l ∷ v ∷ t ∷ m ∷ []) (l' ∷ v' ∷ t' ∷ m' ∷ []) ≡ false
@@ -182,8 +175,4 @@ found_first b es f line x rises is h =
     let p : Pair = (x.pick.app.0, x.pick.unit.0) in
     first_by_turn b es f line is.place x.pick.machine.0 p rises is.at is.there is.placeable
     (λ q n has lt t. let e : not (comes_before (rank_on b es (f q) q n) (rank_with x)) ≡ true = (h n lt).least q has t in
-    turned (comes_before (rank_on b es (f q) q n) (rank_on b es (f p) p x.pick.machine.0)) (subst (λ r. not (comes_before (rank_on b es (f q) q n) (r ++ x.pick.machine.0 ∷ [])) ≡ true) is.rank e))
-  where
-    turned : (b : Bool) → not b ≡ true → b ≡ false
-    turned true e = cc
-    turned false e = refl
+    not_true (comes_before (rank_on b es (f q) q n) (rank_on b es (f p) p x.pick.machine.0)) (subst (λ r. not (comes_before (rank_on b es (f q) q n) (r ++ x.pick.machine.0 ∷ [])) ≡ true) is.rank e))

@@ -15,7 +15,7 @@ use Rattle.fuxi_terms.specs.Counts.{set_count}
 use Rattle.fuxi_terms.specs.Lists.{below}
 use Rattle.fuxi_terms.specs.Tables.{spot, held, held_on, total_at, Table}
 use Rattle.fuxi_terms.proofs.Alls.{all_append}
-use Rattle.fuxi_terms.proofs.Booleans.{both_true, either, nat_itself}
+use Rattle.fuxi_terms.proofs.Booleans.{both_true, either, nat_itself, zero_either}
 use Rattle.fuxi_terms.proofs.Members.{each_place}
 use Rattle.fuxi_terms.proofs.Sums.{sum_set}
 use Rattle.written_roles.specs.Masters.{out_of}
@@ -60,13 +60,9 @@ record IsGrantableRank (t : TableRecord) (r : Ranked) : Type 0 where
 module _ (c : ClusterRecord) (cells : List (List Cell)) (o : List Bool) (t : TableRecord) (w : AreWishes c cells o) (l : AreLevel c (job_at cells) t) (s : IsSound t) where
   held_part : (a u m : ℕ) → held_on t.entries a u m ≤ held t.entries a u
   held_part a u m =
-      let e = sum_set (λ s n. cond (nat_eq s.job a && nat_eq s.unit u) n 0) (λ s. none (nat_eq s.job a && nat_eq s.unit u)) (spot a u m) 0 t.entries s.counts.sorted in
+      let e = sum_set (λ s n. cond (nat_eq s.job a && nat_eq s.unit u) n 0) (λ s. zero_either (nat_eq s.job a && nat_eq s.unit u)) (spot a u m) 0 t.entries s.counts.sorted in
       part (nat_eq a a && nat_eq u u) (held (set_count spot_cmp t.entries (spot a u m) 0) a u) (held_on t.entries a u m) (held t.entries a u) (ap (λ b. b && nat_eq u u) (nat_itself a) ∙ nat_itself u) e
     where
-      none : (b : Bool) → ◌≡◌ {A = ℕ} (cond b 0 0) 0
-      none true = refl
-      none false = refl
-
       part : (b : Bool) (x y z : ℕ) → b ≡ true → x + cond b y 0 ≡ z + cond b 0 0 → y ≤ z
       part true x y z e h = omega (arith, h)
       part false x y z e h = cc

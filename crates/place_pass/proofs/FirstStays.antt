@@ -14,7 +14,7 @@ use Rattle.fuxi_terms.specs.Counts.{count, set_count}
 use Rattle.fuxi_terms.specs.Keys.{Spot, spot_cmp, Pair}
 use Rattle.fuxi_terms.specs.Tables.{held, Table}
 use Rattle.fuxi_terms.specs.TallyKeys.{want_key}
-use Rattle.fuxi_terms.proofs.Booleans.{both_true, and_true}
+use Rattle.fuxi_terms.proofs.Booleans.{both_true, and_true, zero_either}
 use Rattle.fuxi_terms.proofs.Members.{In}
 use Rattle.fuxi_terms.proofs.Sums.{sum_set}
 use Rattle.written_roles.specs.Masters.{level_of, out_of}
@@ -23,6 +23,7 @@ use Rattle.place_pass.specs.Bounds.{comes_before}
 use Rattle.place_pass.proofs.BoundsAfterChange.{granted_later}
 use Rattle.place_pass.proofs.FirstByTurn.{all_in, by_place, in_candidates, less_first, less_rest, placed_all}
 use Rattle.place_pass.proofs.FirstOfLine.{first_is}
+use Rattle.fuxi_terms.proofs.NumberOrders.{is_less}
 
 -- ---- the least of many comes after none
 abbrev before : Ranked → Ranked → Bool
@@ -31,13 +32,8 @@ before r s = is_lt (slice_cmp nat_cmp r.rank s.rank)
 order : IsTotalOrder (slice_cmp nat_cmp)
 order = lists_total nat_cmp_total
 
-less : (o : Ordering) → is_lt o ≡ true → o ≡ Less
-less Less e = refl
-less Equal e = cc
-less Greater e = cc
-
 lower : (r s l : List ℕ) → comes_before r s ≡ true → comes_before s l ≡ true → comes_before r l ≡ true
-lower r s l e f = ap is_lt (order.trans r s l (less (slice_cmp nat_cmp r s) e) (less (slice_cmp nat_cmp s l) f))
+lower r s l e f = ap is_lt (order.trans r s l (is_less (slice_cmp nat_cmp r s) e) (is_less (slice_cmp nat_cmp s l) f))
 
 itself : (r : List ℕ) → comes_before r r ≡ false
 itself r = by (slice_cmp nat_cmp r r) (order.antisymm r r)
@@ -113,12 +109,8 @@ module _ (b : Board) (es : Table) (x : Spot) (n : ℕ) (sorted : T (is_sorted sp
   then = set_count spot_cmp es x n
 
   held_grown : (a u : ℕ) → held es a u ≤ held then a u
-  held_grown a u = by (nat_eq x.job a && nat_eq x.unit u) (held then a u) (held es a u) (sum_set (λ s n. cond (nat_eq s.job a && nat_eq s.unit u) n 0) (λ s. none (nat_eq s.job a && nat_eq s.unit u)) x n es sorted)
+  held_grown a u = by (nat_eq x.job a && nat_eq x.unit u) (held then a u) (held es a u) (sum_set (λ s n. cond (nat_eq s.job a && nat_eq s.unit u) n 0) (λ s. zero_either (nat_eq s.job a && nat_eq s.unit u)) x n es sorted)
     where
-      none : (b : Bool) → ◌≡◌ {A = ℕ} (cond b 0 0) 0
-      none true = refl
-      none false = refl
-
       by : (t : Bool) (h k : ℕ) → h + cond t (count spot_cmp es x) 0 ≡ k + cond t n 0 → k ≤ h
       by true h k e = omega (arith, e, more)
       by false h k e = omega (arith, e)

@@ -5,11 +5,11 @@ use Rattle.std.specs.List.{AllByRecursion, IsDistinct}
 use Rattle.std.proofs.lemmas.List.{get_or_default, length-replicate}
 use Rattle.fuxi_terms.specs.Limits.{most_jobs, most_units}
 use Rattle.fuxi_terms.proofs.Alls.{all_append, all_filter}
-use Rattle.fuxi_terms.proofs.Booleans.{both_true, number_is, same_tests, and_true, nat_itself, or_right}
+use Rattle.fuxi_terms.proofs.Booleans.{both_true, number_is, same_tests, and_true, nat_itself, or_right, both_false, or_none}
 use Rattle.written_roles.specs.Placing.{has_pair}
 use Rattle.place_pass.specs.WaitingLines.{same_pair, IsLine}
-use Rattle.place_pass.proofs.WaitingLinesLemmas.{any_append, either_one, has_filter, neither, or_none, pair_is, pair_self, pair_turned}
-use Rattle.fuxi_terms.proofs.IndexedLists.{one_set}
+use Rattle.place_pass.proofs.WaitingLinesLemmas.{any_append, either_one, has_filter, pair_is, pair_self, pair_turned}
+use Rattle.fuxi_terms.proofs.IndexedLists.{one_set, repeated_at}
 use Rattle.fuxi_terms.specs.Keys.{Pair}
 
 -- no pair waits of a unit that there may not be
@@ -44,11 +44,6 @@ flag_is pairs waits h a u la lu i e flag is =
     is ∙ ap (λ k. get_or waits k flag) e ∙ get_or_default waits (a * 8 + u) flag false (omega (arith, places, la, lu)) ∙ h.waiting a u la lu
 
 -- ---- nobody waits
-none_raised : (n i : ℕ) → get_or (replicate n false) i false ≡ false
-none_raised zero i = refl
-none_raised (suc n) zero = refl
-none_raised (suc n) (suc i) = none_raised n i
-
 none_twice : IsDistinct same_pair []
 unfolding IsDistinct
 none_twice = tt
@@ -58,7 +53,7 @@ line_empty pairs waits none e = record {
   distinct = subst (IsDistinct same_pair) (sym none) none_twice;
   places = ap length e ∙ length-replicate {A = Bool} (most_jobs * most_units) false;
   there = λ a u has. let f : false ≡ true = sym (ap (has_pair (a, u)) none) ∙ has in cc;
-  waiting = λ a u la lu. ap (λ (xs : List Bool). get_or xs (a * 8 + u) false) e ∙ none_raised (most_jobs * most_units) (a * 8 + u) ∙ sym (ap (has_pair (a, u)) none);
+  waiting = λ a u la lu. ap (λ (xs : List Bool). get_or xs (a * 8 + u) false) e ∙ repeated_at false (most_jobs * most_units) (a * 8 + u) ∙ sym (ap (has_pair (a, u)) none);
 }
 
 -- ---- one joins
@@ -66,7 +61,7 @@ distinct_last : (xs : List Pair) (p : Pair) → IsDistinct same_pair xs → has_
 unfolding IsDistinct
 distinct_last [] p h e = (tt, tt)
 distinct_last (x ∷ xs) p h e =
-    let n = neither (same_pair p x) (has_pair p xs) e in
+    let n = both_false (same_pair p x) (has_pair p xs) e in
     (all_append (λ y. same_pair x y ≡ false) xs (p ∷ []) h.0 (pair_turned x p ∙ n.0, tt), distinct_last xs p h.1 n.1)
 
 pub line_joined : (pairs : List Pair) (waits : List Bool) (a u : ℕ) → IsLine pairs waits → a < most_jobs → u < most_units → has_pair (a, u) pairs ≡ false → IsLine (pairs ++ (a, u) ∷ []) (set waits (a * 8 + u) true)
@@ -104,7 +99,7 @@ none_left (x ∷ xs) p h = or_none (same_pair p x) (has_pair p xs) h.0 (none_lef
 pub all_stay : (xs : List Pair) (p : Pair) → has_pair p xs ≡ false → filter (λ q. not (same_pair q p)) xs ≡ xs
 all_stay [] p e = refl
 all_stay (x ∷ xs) p e =
-    let n = neither (same_pair p x) (has_pair p xs) e in
+    let n = both_false (same_pair p x) (has_pair p xs) e in
     ap (λ b. cond (not b) (x ∷ filter (λ q. not (same_pair q p)) xs) (filter (λ q. not (same_pair q p)) xs)) (pair_turned x p ∙ n.0) ∙ ap (λ ys. x ∷ ys) (all_stay xs p n.1)
 
 -- of distinct pairs, all but the one at a place

@@ -17,7 +17,7 @@ use Rattle.fuxi_terms.specs.Tables.{held, held_on, held_in, total_by, usage_by, 
 use Rattle.fuxi_terms.specs.TallyKeys.{want_key, near_key, rack_key, avoid_key}
 use Rattle.fuxi_terms.specs.Vectors.{at_place}
 use Rattle.fuxi_terms.specs.declared.Key.{Key}
-use Rattle.fuxi_terms.proofs.Booleans.{and_true, both_true, both_false, number_is, or_false}
+use Rattle.fuxi_terms.proofs.Booleans.{and_true, both_true, both_false, number_is, or_false, or_none}
 use Rattle.fuxi_terms.proofs.Lookups.{none_is}
 use Rattle.fuxi_terms.proofs.Members.{both_empty, mapped_empty, none_passes, in_below, each_place, each_from, sum_le}
 use Rattle.written_roles.specs.Masters.{out_of}
@@ -33,7 +33,6 @@ use Rattle.place_pass.proofs.SightsLemmas.{place_of}
 use Rattle.place_pass.proofs.BoundsAfterChange.{levels_le}
 use Rattle.fuxi_terms.proofs.Lists.{all_at}
 use Rattle.place_pass.proofs.CellsLemmas.{length-taken_all, get_or-taken_all}
-use Rattle.place_pass.proofs.WaitingLinesLemmas.{or_none}
 use Rattle.place_pass.proofs.CellsMatchTable.{count_is}
 use Rattle.place_pass.proofs.FirstIsGrantable.{all_candidates}
 use Rattle.place_pass.proofs.Places.{counted_at}

@@ -13,7 +13,7 @@ use Rattle.fuxi_terms.specs.declared.Key.{Key}
 use Rattle.fuxi_terms.specs.Jobs.{group_of, most_of}
 use Rattle.fuxi_terms.specs.Tables.{spot, held, held_on, Table}
 use Rattle.fuxi_terms.proofs.Alls.{all_append, all_filter, all_more}
-use Rattle.fuxi_terms.proofs.Booleans.{both_true, and_true, or_right, number_is, nat_itself}
+use Rattle.fuxi_terms.proofs.Booleans.{both_true, and_true, or_right, number_is, nat_itself, zero_either}
 use Rattle.fuxi_terms.proofs.Sums.{sum_set}
 use Rattle.written_roles.specs.Placing.{Board, has_pair}
 use Rattle.grant_table.specs.GrantTables.{TableRecord, as_known}
@@ -181,12 +181,8 @@ module _ (cells : List (List Cell)) (o : List Bool) (line line' : List Pair) (tu
       es : Table
       es = set_count spot_cmp t.entries (spot a u m) number
 
-      none : (x : Bool) → ◌≡◌ {A = ℕ} (cond x 0 0) 0
-      none true = refl
-      none false = refl
-
       held_then : (b v : ℕ) → held es b v + cond (nat_eq a b && nat_eq u v) (count spot_cmp t.entries (spot a u m)) 0 ≡ held t.entries b v + cond (nat_eq a b && nat_eq u v) number 0
-      held_then b v = sum_set (λ s n. cond (nat_eq s.job b && nat_eq s.unit v) n 0) (λ s. none (nat_eq s.job b && nat_eq s.unit v)) (spot a u m) number t.entries sorted
+      held_then b v = sum_set (λ s n. cond (nat_eq s.job b && nat_eq s.unit v) n 0) (λ s. zero_either (nat_eq s.job b && nat_eq s.unit v)) (spot a u m) number t.entries sorted
 
       other : (b v : ℕ) → (nat_eq a b && nat_eq u v) ≡ false → held es b v ≡ held t.entries b v
       other b v x =

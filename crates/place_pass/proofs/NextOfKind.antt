@@ -1,6 +1,6 @@
 -- What a walk along a demand finds next of a kind and a unit.
-use Rattle.std.proofs.Common.{◌≡◌, ℕ, ◌-◌, ◌<◌, ◌≤◌, Bool, true, false, cond, nat_eq, nat_lt, List, length, get_or, refl, sym, ◌∙◌, ap, subst, arith, true≢false, inl, inr}
-use Rattle.std.specs.Prelude.{◌&&◌, ◌==◌, T}
+use Rattle.std.proofs.Common.{◌≡◌, ℕ, ◌-◌, ◌<◌, ◌≤◌, Bool, true, false, nat_eq, List, length, get_or, refl, sym, ◌∙◌, ap, subst, arith, true≢false, inl, inr}
+use Rattle.std.specs.Prelude.{◌&&◌, T}
 use Rattle.std.specs.Ordering.{nat_cmp, is_lt, is_eq, ordering_then}
 use Rattle.std.specs.FinMap.Entries.{is_sorted}
 use Rattle.std.specs.declared.cmp.Ordering.{Ordering}
@@ -14,26 +14,19 @@ use Rattle.fuxi_terms.specs.TallyKeys.{key}
 use Rattle.fuxi_terms.specs.declared.Key.{Key}
 use Rattle.fuxi_terms.proofs.Booleans.{both_true, number_is}
 use Rattle.place_pass.specs.DemandWalks.{IsPast, IsNextAsked}
-use Rattle.place_pass.proofs.BoundsLemmas.{is_less}
-use Rattle.place_pass.proofs.FirstByTurn.{is_same}
 use Rattle.place_pass.proofs.DemandWalksLemmas.{found_here, found_later, itself, later_past, stands_nowhere}
+use Rattle.fuxi_terms.proofs.NumberOrders.{compared_greater, compared_less, compared_itself}
 
 -- a key is of the kind and unit of another
 abbrev pub is_kind : Key → Key → Bool
 is_kind e k = nat_eq e.what k.what && nat_eq e.unit k.unit
 
-is_more : (x y : ℕ) → y < x → nat_cmp x y ≡ Greater
-is_more x y lt =
-    let t : nat_lt x y ≡ false = grind (arith, nat_tests, lt) in
-    let s : (x == y) ≡ false = grind (arith, nat_tests, lt) in
-    ap (λ b. cond b Less (cond (x == y) Equal Greater)) t ∙ ap (λ b. cond b Equal Greater) s
-
 same_number : (x y : ℕ) → nat_cmp x y ≡ Equal → nat_eq x y ≡ true
 same_number x y e = elim (nat_eq x y) as (λ b. nat_eq x y ≡ b → b ≡ true) [
   | true ↦ λ _. refl
   | false ↦ λ f. elim (cases_lt x y) [
-    | inl lt ↦ let g : Less ≡ Equal = sym (is_less x y lt) ∙ e in cc
-    | inr ge ↦ let lt : y < x = grind (arith, nat_tests, f, ge) in let g : Greater ≡ Equal = sym (is_more x y lt) ∙ e in cc
+    | inl lt ↦ let g : Less ≡ Equal = sym (compared_less x y lt) ∙ e in cc
+    | inr ge ↦ let lt : y < x = grind (arith, nat_tests, f, ge) in let g : Greater ≡ Equal = sym (compared_greater x y lt) ∙ e in cc
   ]
 ] refl
 
@@ -58,9 +51,9 @@ same_kind e k n same =
     let w : e.what ≡ k.what = number_is e.what k.what both.0 in
     let u : e.unit ≡ k.unit = number_is e.unit k.unit both.1 in
     ap (λ x. ordering_then (nat_cmp x k.what) (ordering_then (nat_cmp e.unit k.unit) (nat_cmp e.number n))) w
-    ∙ ap (λ o. ordering_then o (ordering_then (nat_cmp e.unit k.unit) (nat_cmp e.number n))) (is_same k.what)
+    ∙ ap (λ o. ordering_then o (ordering_then (nat_cmp e.unit k.unit) (nat_cmp e.number n))) (compared_itself k.what)
     ∙ ap (λ x. ordering_then (nat_cmp x k.unit) (nat_cmp e.number n)) u
-    ∙ ap (λ o. ordering_then o (nat_cmp e.number n)) (is_same k.unit)
+    ∙ ap (λ o. ordering_then o (nat_cmp e.number n)) (compared_itself k.unit)
 
 past_on : (es : List (Key × ℕ)) (at : ℕ) (k : Key) (n : ℕ) → k.number ≤ n → IsPast es at k → IsPast es at (key k.what k.unit n)
 past_on es at k n le past = elim (cases_lt k.number n) as (λ _. IsPast es at (key k.what k.unit n)) [
@@ -98,19 +91,19 @@ module _ (es : List (Key × ℕ)) (k : Key) (end at : ℕ) (d : Key × ℕ) (ins
 
   pub next_beyond : is_kind (get_or es at d).0 k ≡ true → end ≤ (get_or es at d).0.number → IsNextAsked es k end (end - 1) 0 at
   next_beyond same le = nothing_next es k end at inside past (λ n ge l.
-      none_later es k at n d sorted lt (same_kind (get_or es at d).0 k n same ∙ is_more (get_or es at d).0.number n (omega (arith, l, le))) past ge)
+      none_later es k at n d sorted lt (same_kind (get_or es at d).0 k n same ∙ compared_greater (get_or es at d).0.number n (omega (arith, l, le))) past ge)
 
   pub next_here : is_kind (get_or es at d).0 k ≡ true → is_lt (key_cmp (get_or es at d).0 k) ≡ false → (get_or es at d).0.number < end → IsNextAsked es k end (get_or es at d).0.number (get_or es at d).1 at
   next_here same above below =
       let e : Key = (get_or es at d).0 in
       let least : k.number ≤ e.number = elim (cases_lt e.number k.number) [
-        | inl l ↦ absurd (true≢false (sym (ap is_lt (same_kind e k k.number same ∙ is_less e.number k.number l)) ∙ above))
+        | inl l ↦ absurd (true≢false (sym (ap is_lt (same_kind e k k.number same ∙ compared_less e.number k.number l)) ∙ above))
         | inr ge ↦ ge
       ] in
       record {
         least = least;
         inside = below;
-        asked = sym (found_here es at (key k.what k.unit e.number) d lt (ap is_eq (same_kind e k e.number same ∙ is_same e.number)) (past_on es at k e.number least past));
-        between = λ n ge l. none_later es k at n d sorted lt (same_kind e k n same ∙ is_more e.number n l) past ge;
+        asked = sym (found_here es at (key k.what k.unit e.number) d lt (ap is_eq (same_kind e k e.number same ∙ compared_itself e.number)) (past_on es at k e.number least past));
+        between = λ n ge l. none_later es k at n d sorted lt (same_kind e k n same ∙ compared_greater e.number n l) past ge;
         past = past_on es at k e.number least past;
       }

@@ -33,12 +33,13 @@ use Rattle.place_pass.specs.PlacerTrees.{StandsAs, TreeOf, entry_for}
 use Rattle.place_pass.proofs.FirstByTurn.{less_first, less_rest}
 use Rattle.place_pass.proofs.WaitingLinesLemmas.{either_one, pair_is, pair_self, pair_turned}
 use Rattle.place_pass.proofs.CellsMatchTable.{rack_small, unit_is}
-use Rattle.place_pass.proofs.SightsLemmas.{bounded_by, bounded_wider, less_is, order, place_of, self_bound}
+use Rattle.place_pass.proofs.SightsLemmas.{bounded_by, bounded_wider, order, place_of, self_bound}
 use Rattle.place_pass.proofs.PlacerTreesLemmas.{IsOfLine, some_same, waiting_is}
+use Rattle.fuxi_terms.proofs.NumberOrders.{is_less}
 
 -- ---- ranks
 not_after : (r s : List ℕ) → comes_before r s ≡ true → not (comes_before s r) ≡ true
-not_after r s e = ap (λ o. not (is_lt o)) (order.antisymm s r ∙ ap ordering_reverse (less_is (slice_cmp nat_cmp r s) e))
+not_after r s e = ap (λ o. not (is_lt o)) (order.antisymm s r ∙ ap ordering_reverse (is_less (slice_cmp nat_cmp r s) e))
 
 abbrev pub rank_in_path : RankedEntry → List ℕ
 rank_in_path p = (9 - p.0.priority) ∷ p.1 ∷ p.0.turn ∷ []

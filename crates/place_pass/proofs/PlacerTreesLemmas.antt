@@ -1,7 +1,6 @@
 -- What a tree holds after one unit of it begins to wait, waits no more, or stands in other queues.
-use mathlib.Core.Bool.{beq}
 use Rattle.std.proofs.Common.{◌≡◌, ◌≢◌, ℕ, zero, suc, ◌+◌, ◌*◌, ◌<◌, Bool, true, false, cond, nat_eq, nat_lt, List, [], ◌∷◌, Option, Some, None, length, take, get_or, set, slice_get, refl, sym, ap, subst, ◌∙◌, inl, inr, arith, length-set}
-use Rattle.std.specs.Prelude.{◌&&◌, ◌||◌, ◌/◌, ◌%◌, replicate}
+use Rattle.std.specs.Prelude.{◌&&◌, ◌||◌, ◌/◌, ◌%◌}
 use Rattle.std.proofs.lemmas.Bool.{cases_eq, cases_lt}
 use Rattle.std.proofs.lemmas.Bool.Decides.{nat_tests}
 use Rattle.std.proofs.lemmas.List.{get_or-set_same, get_or-set_other, set-get_or, length-map, length-replicate}
@@ -19,7 +18,7 @@ use Rattle.place_pass.specs.WaitingLines.{same_pair}
 use Rattle.place_pass.specs.PlacerTrees.{entry_for, Holds, StandsAs, WaitsIn, Restood}
 use Rattle.place_pass.proofs.WaitingLinesLemmas.{any_append, pair_is, pair_self}
 use Rattle.place_pass.proofs.SightsLemmas.{place_of, same_place}
-use Rattle.fuxi_terms.proofs.IndexedLists.{one_set}
+use Rattle.fuxi_terms.proofs.IndexedLists.{one_set, repeated_at}
 use Rattle.fuxi_terms.specs.Tables.{Table}
 
 none_some : (o : Option Entry) (e : Entry) → o ≡ None → o ≡ Some e → ⊥
@@ -145,12 +144,6 @@ module _ (c : ClusterRecord) (t t' : TreeRecord) (e : Entry) (place : ℕ) (unme
   pub marked_waits : WaitsIn c e t'
   marked_waits = waits_on c e (unit_number e.app.0 e.unit.0) t t' w marked
 
-pub same_bool : (a b : Bool) → beq a b ≡ true → a ≡ b
-same_bool true true e = refl
-same_bool true false e = cc
-same_bool false true e = cc
-same_bool false false e = refl
-
 -- one that stands as it has to is written as it is
 pub stood_so : (t : TreeRecord) (e : Entry) (place : ℕ) (unmet : Bool) → get_or (unit_at t e.app.0 e.unit.0).stands place false ≡ unmet → t ≡ with_stand t e place unmet
 stood_so t e place unmet h =
@@ -261,12 +254,6 @@ turn_apart f xs p q rises hp hq e =
     ]
 
 -- ---- a unit begins to wait, or waits no more
--- a unit that stands nowhere
-pub nowhere_in : (n k : ℕ) → get_or (replicate n false) k false ≡ false
-nowhere_in zero k = refl
-nowhere_in (suc n) zero = refl
-nowhere_in (suc n) (suc k) = nowhere_in n k
-
 module _ (c : ClusterRecord) (cells : List (List Cell)) (waits now : Pair → Bool) (turns : List ℕ) (t t' : TreeRecord) (a u : ℕ) (h : Holds c cells waits turns t) (lu : u < 8) (admitted : u < length (get_or cells a []))
     (same : (b v : ℕ) → same_pair (b, v) (a, u) ≡ false → now (b, v) ≡ waits (b, v)) where
   width : length (unit_at t a u).stands ≡ place_count t.racks
@@ -274,7 +261,7 @@ module _ (c : ClusterRecord) (cells : List (List Cell)) (waits now : Pair → Bo
 
   pub holds_left : now (a, u) ≡ false → t' ≡ refreshed t (entry_for cells turns a u) false → Holds c cells now turns t'
   holds_left gone is = holds_set t t' a u (idle (place_count t.racks)) is (within_places t (unit_number a u) width) c cells waits now turns h lu (length-replicate (place_count t.racks) false ∙ sym width) same
-      (λ w. let f : false ≡ true = sym gone ∙ w in cc) (λ w. refl) (λ w k. nowhere_in (place_count t.racks) k)
+      (λ w. let f : false ≡ true = sym gone ∙ w in cc) (λ w. refl) (λ w k. repeated_at false (place_count t.racks) k)
 
   pub left_others : t' ≡ refreshed t (entry_for cells turns a u) false → (b v : ℕ) → v < 8 → same_pair (b, v) (a, u) ≡ false → unit_at t' b v ≡ unit_at t b v
   left_others is b v lv f = unit_there t t' a u (idle (place_count t.racks)) is (within_places t (unit_number a u) width) (unit_number b v) (numbers_apart a u b v lu lv f)

@@ -18,7 +18,7 @@ use Rattle.fuxi_terms.specs.Lists.{below}
 use Rattle.fuxi_terms.specs.Numbers.{has_number}
 use Rattle.fuxi_terms.specs.Tables.{spot, held}
 use Rattle.fuxi_terms.proofs.Alls.{all_more}
-use Rattle.fuxi_terms.proofs.Booleans.{number_is, nat_itself, both_true, eq_turned, and_false}
+use Rattle.fuxi_terms.proofs.Booleans.{number_is, nat_itself, both_true, eq_turned, and_false, and_with_true, zero_either}
 use Rattle.fuxi_terms.proofs.CountsLemmas.{count_le}
 use Rattle.fuxi_terms.proofs.KeyOrders.{key_total, same_key}
 use Rattle.fuxi_terms.proofs.Sums.{sum_set}
@@ -166,13 +166,9 @@ row_at es k n what e = elim (cases_lt k.number n) [
 rack_at : (c : ClusterRecord) (es : List (Key × ℕ)) (k : Key) → AreCounts key_cmp greatest_demand es → k.what ≡ 3 → get_or (map (λ r. cond (has_rack c r) (count key_cmp es (rack_key k.unit r)) 0) (below 64)) k.number 0 ≡ cond (has_rack c k.number) (count key_cmp es k) 0
 rack_at c es k h e = elim (cases_lt k.number 64) [
   | inl lt ↦ counted_at (λ r. cond (has_rack c r) (count key_cmp es (rack_key k.unit r)) 0) 64 k.number lt ∙ ap (λ w. cond (has_rack c k.number) (count key_cmp es (key w k.unit k.number)) 0) (sym e)
-  | inr ge ↦ counted_past (λ r. cond (has_rack c r) (count key_cmp es (rack_key k.unit r)) 0) 64 k.number ge ∙ sym (ap (λ n. cond (has_rack c k.number) n 0) (none ge) ∙ either (has_rack c k.number))
+  | inr ge ↦ counted_past (λ r. cond (has_rack c r) (count key_cmp es (rack_key k.unit r)) 0) 64 k.number ge ∙ sym (ap (λ n. cond (has_rack c k.number) n 0) (none ge) ∙ zero_either (has_rack c k.number))
 ]
   where
-    either : (b : Bool) → ◌≡◌ {A = ℕ} (cond b 0 0) 0
-    either true = refl
-    either false = refl
-
     none : 64 ≤ k.number → count key_cmp es k ≡ 0
     none ge =
         let le = count_le key_total same_key greatest_demand es k h.within in
@@ -282,11 +278,7 @@ module _ (asks : ℕ → Key → ℕ) (before after : TableRecord) (a u m : ℕ)
     (up : (b v : ℕ) → has_pair (b, v) line ≡ (nat_lt v (unit_count (as_known before.jobs) b) && nat_lt 0 (out_of asks before.entries b v))) where
   held_then : (b v : ℕ) → held after.entries b v + cond (nat_eq a b && nat_eq u v) (count spot_cmp before.entries (spot a u m)) 0 ≡ held before.entries b v + cond (nat_eq a b && nat_eq u v) is.number 0
   held_then b v = subst (λ (t : TableRecord). held t.entries b v + cond (nat_eq a b && nat_eq u v) (count spot_cmp before.entries (spot a u m)) 0 ≡ held before.entries b v + cond (nat_eq a b && nat_eq u v) is.number 0) (sym is.is)
-      (sum_set (λ s n. cond (nat_eq s.job b && nat_eq s.unit v) n 0) (λ s. none (nat_eq s.job b && nat_eq s.unit v)) (spot a u m) is.number before.entries is.sound.counts.sorted)
-    where
-      none : (t : Bool) → ◌≡◌ {A = ℕ} (cond t 0 0) 0
-      none true = refl
-      none false = refl
+      (sum_set (λ s n. cond (nat_eq s.job b && nat_eq s.unit v) n 0) (λ s. zero_either (nat_eq s.job b && nat_eq s.unit v)) (spot a u m) is.number before.entries is.sound.counts.sorted)
 
   units_then : (b : ℕ) → unit_count (as_known after.jobs) b ≡ unit_count (as_known before.jobs) b
   units_then b = ap (λ (t : TableRecord). unit_count (as_known t.jobs) b) is.is
@@ -325,10 +317,6 @@ module _ (asks : ℕ → Key → ℕ) (before after : TableRecord) (a u m : ℕ)
               let e = both_true (nat_eq a b) (nat_eq u v) s in
               let eb = number_is a b e.0 in let ev = number_is u v e.1 in
               and_false (has_pair (b, v) line) ∙ sym (ap (λ t. nat_lt v (unit_count (as_known after.jobs) b) && t) (subst (λ x. nat_lt 0 (out_of asks after.entries x v) ≡ false) eb (subst (λ x. nat_lt 0 (out_of asks after.entries a x) ≡ false) ev w)) ∙ and_false (nat_lt v (unit_count (as_known after.jobs) b)))
-          | false ↦ λ f. on (has_pair (b, v) line) ∙ up b v ∙ (λ i. nat_lt v (sym (units_then b) i) && nat_lt 0 (sym (other_out b v f) i))
+          | false ↦ λ f. and_with_true (has_pair (b, v) line) ∙ up b v ∙ (λ i. nat_lt v (sym (units_then b) i) && nat_lt 0 (sym (other_out b v f) i))
         ] refl
   ] refl
-    where
-      on : (t : Bool) → (t && true) ≡ t
-      on true = refl
-      on false = refl

@@ -1,5 +1,5 @@
 -- Numbers that are all 0: nothing is asked there, and nothing stands for it.
-use Rattle.std.proofs.Common.{◌≡◌, ℕ, zero, suc, Bool, true, false, cond, nat_lt, List, [], ◌∷◌, get_or, refl, sym, ◌∙◌, arith}
+use Rattle.std.proofs.Common.{◌≡◌, ℕ, zero, suc, Bool, false, nat_lt, List, [], ◌∷◌, get_or, refl, sym, ◌∙◌, arith}
 use Rattle.std.specs.Prelude.{◌||◌}
 use Rattle.std.specs.List.{list_any}
 use Rattle.std.proofs.lemmas.Bool.Decides.{nat_tests}
@@ -12,10 +12,6 @@ pub all_zero : (xs : List ℕ) (n : ℕ) → list_any (λ x. nat_lt 0 x) xs ≡ 
 all_zero [] n e = refl
 all_zero (x ∷ xs) zero e = none_asked x (both_false (nat_lt 0 x) (list_any (λ x. nat_lt 0 x) xs) e).0
 all_zero (x ∷ xs) (suc n) e = all_zero xs n (both_false (nat_lt 0 x) (list_any (λ x. nat_lt 0 x) xs) e).1
-
-pub either_zero : (b : Bool) → ◌≡◌ {A = ℕ} (cond b 0 0) 0
-either_zero true = refl
-either_zero false = refl
 
 -- where nothing is asked, and where it does not stand, a unit stands as it has to
 pub stands_unasked : (asked held : ℕ) (stands : Bool) → (nat_lt 0 asked || stands) ≡ false → stands ≡ nat_lt held asked

@@ -1,6 +1,6 @@
 -- Which marks are unsettled, or note a group, after a change; and how many machines are looked at.
 use Rattle.std.proofs.Common.{◌≡◌, ℕ, zero, suc, ◌+◌, ◌<◌, ◌≤◌, Bool, true, false, cond, not, nat_eq, nat_lt, List, [], ◌∷◌, get_or, refl, sym, ◌∙◌, ap, subst, arith, inl, inr, ◌⊎◌, Option, None, Some}
-use Rattle.std.specs.Prelude.{◌&&◌, is_some, replicate}
+use Rattle.std.specs.Prelude.{◌&&◌, is_some}
 use Rattle.std.specs.List.{list_any}
 use Rattle.std.specs.Option.{is_none}
 use Rattle.std.proofs.lemmas.Bool.{cases_lt}
@@ -13,6 +13,7 @@ use Rattle.place_pass.specs.Cells.{Cell, Lifts}
 use Rattle.place_pass.specs.SearchCounts.{is_unsettled_by, is_unsettled, count_below, IsTight, StaysTight}
 use Rattle.place_pass.specs.Placers.{PlacerRecord}
 use Rattle.place_pass.specs.Sights.{IsAsked}
+use Rattle.fuxi_terms.proofs.IndexedLists.{repeated_at}
 
 -- ---- how many machines are looked at
 apart_le : (f : ℕ → Bool) (start n : ℕ) → count_below (λ m. not (nat_eq m start) && f m) n ≤ count_below f n
@@ -81,13 +82,8 @@ pub record MarkStays (turns : ℕ) (more : Type 0) (k k' : MarkRecord) : Type 0 
 pub stays_for : (turns : ℕ) (A B : Type 0) (k k' : MarkRecord) → (A → B) → MarkStays turns A k k' → MarkStays turns B k k'
 stays_for turns A B k k' f h = record { tight = h.tight; few = λ e. elim (h.few e) [ inl x ↦ inl x | inr y ↦ inr (f y) ] }
 
-none_of : (n g : ℕ) → get_or (replicate n false) g false ≡ false
-none_of zero g = refl
-none_of (suc n) zero = refl
-none_of (suc n) (suc g) = none_of n g
-
 pub none_noted : (g : ℕ) → get_or no_groups g false ≡ false
-none_noted g = none_of 32 g
+none_noted g = repeated_at false 32 g
 
 pub same_stays : (turns : ℕ) (more : Type 0) (k : MarkRecord) → IsTightMark turns k → MarkStays turns more k k
 same_stays turns more k h = record { tight = h; few = λ e. inl e }

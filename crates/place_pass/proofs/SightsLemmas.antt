@@ -29,21 +29,17 @@ use Rattle.place_pass.specs.Sights.{found_rank, IsLeast, AreBounded, is_first}
 use Rattle.place_pass.proofs.BoundsLemmas.{zero_bounds}
 use Rattle.place_pass.proofs.WaitingLinesLemmas.{pair_is}
 use Rattle.fuxi_terms.proofs.IndexedLists.{one_set}
+use Rattle.fuxi_terms.proofs.NumberOrders.{compared_itself, is_less}
 
 pub order : IsTotalOrder (slice_cmp nat_cmp)
 order = lists_total nat_cmp_total
-
-pub less_is : (o : Ordering) → is_lt o ≡ true → o ≡ Less
-less_is Less e = refl
-less_is Equal e = cc
-less_is Greater e = cc
 
 -- what comes before b comes before each that does not
 pub before_those : (r x b : List ℕ) → comes_before x b ≡ false → comes_before r b ≡ true → comes_before r x ≡ true
 before_those r x b worse sooner = by (slice_cmp nat_cmp x b) refl worse
   where
     less : slice_cmp nat_cmp r b ≡ Less
-    less = less_is (slice_cmp nat_cmp r b) sooner
+    less = is_less (slice_cmp nat_cmp r b) sooner
 
     by : (o : Ordering) → slice_cmp nat_cmp x b ≡ o → is_lt o ≡ false → comes_before r x ≡ true
     by Less e f = cc
@@ -53,7 +49,7 @@ before_those r x b worse sooner = by (slice_cmp nat_cmp x b) refl worse
 -- a better rank bounds what the other bounds
 pub kept_better : (x b r : List ℕ) → comes_before x b ≡ true → not (comes_before r b) ≡ true → not (comes_before r x) ≡ true
 kept_better x b r better h = elim (comes_before r x) as (λ t. comes_before r x ≡ t → not t ≡ true) [
-  | true ↦ λ t. let e : comes_before r b ≡ true = ap is_lt (order.trans r x b (less_is _ t) (less_is _ better)) in sym (ap not e) ∙ h
+  | true ↦ λ t. let e : comes_before r b ≡ true = ap is_lt (order.trans r x b (is_less _ t) (is_less _ better)) in sym (ap not e) ∙ h
   | false ↦ λ _. refl
 ] refl
 
@@ -62,12 +58,6 @@ kept_worse x b r worse h = elim (comes_before r b) as (λ t. comes_before r b �
   | true ↦ λ t. let e = before_those r x b worse t in sym (ap not e) ∙ h
   | false ↦ λ _. refl
 ] refl
-
-is_same : (x : ℕ) → nat_cmp x x ≡ Equal
-is_same x =
-    let t : nat_lt x x ≡ false = grind (arith, nat_tests) in
-    let e : (x == x) ≡ true = grind (arith, nat_tests) in
-    ap (λ b. cond b Less (cond (x == x) Equal Greater)) t ∙ ap (λ b. cond b Equal Greater) e
 
 -- a number decides where it differs, and else what stands behind it
 pub first_decides : (x y : ℕ) (rest : Bool) (r s : List ℕ) → rest ≡ comes_before r s → (nat_lt x y || (nat_eq x y && rest)) ≡ comes_before (x ∷ r) (y ∷ s)
@@ -81,7 +71,7 @@ first_decides x y rest r s e = elim (nat_lt x y) as (λ t. (t || (nat_eq x y && 
 
 -- the same number at the end changes nothing
 with_last : (m : ℕ) (r s : List ℕ) → length r ≡ length s → not (comes_before r s) ≡ true → not (comes_before (r ++ m ∷ []) (s ++ m ∷ [])) ≡ true
-with_last m [] [] l h = ap (λ o. not (is_lt (ordering_then o Equal))) (is_same m)
+with_last m [] [] l h = ap (λ o. not (is_lt (ordering_then o Equal))) (compared_itself m)
 with_last m [] (y ∷ ys) l h = absurd (omega (arith, l))
 with_last m (x ∷ xs) [] l h = absurd (omega (arith, l))
 with_last m (x ∷ xs) (y ∷ ys) l h = elim (nat_cmp x y) as (λ o. not (is_lt (ordering_then o (slice_cmp nat_cmp xs ys))) ≡ true → not (is_lt (ordering_then o (slice_cmp nat_cmp (xs ++ m ∷ []) (ys ++ m ∷ [])))) ≡ true) [

@@ -11,7 +11,7 @@ use Rattle.fuxi_terms.specs.Keys.{Spot, spot_cmp, Pair}
 use Rattle.fuxi_terms.specs.Tables.{spot, held_on, held_in, Table}
 use Rattle.fuxi_terms.specs.TallyKeys.{near_key, rack_key}
 use Rattle.fuxi_terms.specs.declared.Key.{Key}
-use Rattle.fuxi_terms.proofs.Booleans.{and_true, both_true, nat_itself}
+use Rattle.fuxi_terms.proofs.Booleans.{and_true, both_true, nat_itself, not_true}
 use Rattle.written_roles.specs.Placing.{has_pair}
 use Rattle.locality_tree.specs.Trees.{UnitState, TreeRecord, all_units, no_unit, unit_at, unit_number, idle, with_idle, with_job, started, place_count, rack_place, racks_of}
 use Rattle.place_pass.specs.Cells.{Cell, cell_at, asks_in, no_cell}
@@ -19,7 +19,8 @@ use Rattle.place_pass.specs.WaitingLines.{same_pair}
 use Rattle.place_pass.specs.PlacerTrees.{entry_for, Holds, HoldsLine, StandsAs, AllStand, Restood, RestoodAt}
 use Rattle.place_pass.proofs.BoundsAfterChange.{count_stays, rack_stays}
 use Rattle.place_pass.proofs.WaitingLinesLemmas.{has_filter, pair_is, pair_turned}
-use Rattle.place_pass.proofs.PlacerTreesLemmas.{apart_when, nowhere_in, numbers_apart, racks_long, stands_on}
+use Rattle.place_pass.proofs.PlacerTreesLemmas.{apart_when, numbers_apart, racks_long, stands_on}
+use Rattle.fuxi_terms.proofs.IndexedLists.{repeated_at}
 
 -- ---- the number at one spot is set
 module _ (c : ClusterRecord) (cells : List (List Cell)) (es : Table) (a u m n : ℕ) (sorted : T (is_sorted spot_cmp es)) where
@@ -91,11 +92,7 @@ has_others a u line p = has_filter (λ p. not (nat_eq p.0 a && nat_eq p.1 u)) p 
 pub apart_from : (a u : ℕ) (line : List Pair) (p : Pair) → has_pair p (others_in a u line) ≡ true → (has_pair p line ≡ true) × (same_pair p (a, u) ≡ false)
 apart_from a u line p has =
     let b = both_true (has_pair p line) (not (same_pair p (a, u))) (sym (has_others a u line p) ∙ has) in
-    (b.0, turned (same_pair p (a, u)) b.1)
-  where
-    turned : (t : Bool) → not t ≡ true → t ≡ false
-    turned true e = cc
-    turned false e = refl
+    (b.0, not_true (same_pair p (a, u)) b.1)
 
 -- ---- what is asked
 pub holds_cells : (c : ClusterRecord) (cells cells' : List (List Cell)) (waits : Pair → Bool) (turns : List ℕ) (t : TreeRecord) → ((a : ℕ) → length (get_or cells' a []) ≡ length (get_or cells a []))
@@ -198,7 +195,7 @@ module _ (c : ClusterRecord) (cells : List (List Cell)) (xs : List Cell) (line :
         (λ a u lu _ w. h.entry a u w ∙ (λ i. Some (record { app = record { 0 = a }; unit = record { 0 = u }; priority = (get_or (sym (row_other a (of_others a u w)) i) u no_cell).unit.priority; turn = (entry_for cells turns a u).turn })))
         a u (h.few a u w) w;
     none = λ a u lu w. each_job (λ a u s. has_pair (a, u) line ≡ false → s.entry ≡ None) (λ u lt w. refl) (λ a u lu _ w. h.none a u lu w) a u lu w;
-    nowhere = λ a u place lu w. each_job (λ a u s. has_pair (a, u) line ≡ false → get_or s.stands place false ≡ false) (λ u lt w. nowhere_in (place_count t.racks) place) (λ a u lu _ w. h.nowhere a u place lu w) a u lu w;
+    nowhere = λ a u place lu w. each_job (λ a u s. has_pair (a, u) line ≡ false → get_or s.stands place false ≡ false) (λ u lt w. repeated_at false (place_count t.racks) place) (λ a u lu _ w. h.nowhere a u place lu w) a u lu w;
   }
 
   -- nobody of the line stands otherwise

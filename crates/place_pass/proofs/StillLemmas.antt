@@ -12,7 +12,7 @@ use Rattle.fuxi_terms.specs.declared.Key.{Key}
 use Rattle.fuxi_terms.specs.Numbers.{has_number}
 use Rattle.fuxi_terms.specs.TallyKeys.{want_key}
 use Rattle.fuxi_terms.specs.Tables.{spot, held, Table}
-use Rattle.fuxi_terms.proofs.Booleans.{both_true, number_is, or_right}
+use Rattle.fuxi_terms.proofs.Booleans.{both_true, number_is, or_right, not_true, and_with_true, zero_either}
 use Rattle.fuxi_terms.proofs.Sums.{sum_set}
 use Rattle.written_roles.specs.Masters.{out_of}
 use Rattle.written_roles.specs.Placing.{has_pair, waiting_in}
@@ -24,11 +24,7 @@ use Rattle.place_pass.proofs.WaitingLinesLemmas.{append_nil, filter_append, has_
 
 -- ---- a job less is calm
 pub still_calm : (calm calm' : List Bool) (n a : ℕ) → get_or calm' a false ≡ (not (nat_eq n a) && get_or calm a false) → get_or calm' a false ≡ true → (nat_eq n a ≡ false) × (get_or calm a false ≡ true)
-still_calm calm calm' n a is t = let b = both_true (not (nat_eq n a)) (get_or calm a false) (sym is ∙ t) in (off (nat_eq n a) b.0, b.1)
-  where
-    off : (x : Bool) → not x ≡ true → x ≡ false
-    off true e = cc
-    off false e = refl
+still_calm calm calm' n a is t = let b = both_true (not (nat_eq n a)) (get_or calm a false) (sym is ∙ t) in (not_true (nat_eq n a) b.0, b.1)
 
 -- ---- who leaves
 pub filter_all : (q : Pair → Bool) (xs : List Pair) → ((p : Pair) → has_pair p xs ≡ true → q p ≡ true) → filter q xs ≡ xs
@@ -177,13 +173,9 @@ waiting_waits numbers units asks table p has =
 joined_same : (line front : List Pair) (q : Pair → Bool) (all : List Pair) → front ≡ filter q line → ((p : Pair) → has_pair p all ≡ true → q p ≡ true) → filter (λ p. not (has_pair p front)) all ≡ filter (λ p. not (has_pair p line)) all
 joined_same line front q [] is w = refl
 joined_same line front q (x ∷ xs) is w =
-    let here : has_pair x front ≡ has_pair x line = ap (has_pair x) is ∙ has_filter q x line ∙ ap (λ b. has_pair x line && b) (w x (ap (λ b. b || has_pair x xs) (pair_self x))) ∙ on (has_pair x line) in
+    let here : has_pair x front ≡ has_pair x line = ap (has_pair x) is ∙ has_filter q x line ∙ ap (λ b. has_pair x line && b) (w x (ap (λ b. b || has_pair x xs) (pair_self x))) ∙ and_with_true (has_pair x line) in
     ap (λ b. cond (not b) (x ∷ filter (λ p. not (has_pair p front)) xs) (filter (λ p. not (has_pair p front)) xs)) here
     ∙ ap (λ zs. cond (not (has_pair x line)) (x ∷ zs) zs) (joined_same line front q xs is (λ p e. w p (or_right (same_pair p x) (has_pair p xs) e)))
-  where
-    on : (b : Bool) → (b && true) ≡ b
-    on true = refl
-    on false = refl
 
 pub joined_is : (line front all next : List Pair) (q : Pair → Bool) → front ≡ filter q line → ((p : Pair) → has_pair p all ≡ true → q p ≡ true) → next ≡ front ++ filter (λ p. not (has_pair p front)) all → next ≡ front ++ filter (λ p. not (has_pair p line)) all
 joined_is line front all next q is w next_is = next_is ∙ ap (λ xs. front ++ xs) (joined_same line front q all is w)
@@ -201,13 +193,9 @@ module _ (calm calm' : List Bool) (a : ℕ) (less : (b : ℕ) → get_or calm' b
       units_then : (b : ℕ) → unit_count (as_known after.jobs) b ≡ unit_count (as_known before.jobs) b
       units_then b = ap (λ (t : TableRecord). unit_count (as_known t.jobs) b) is.is
 
-      none : (t : Bool) → ◌≡◌ {A = ℕ} (cond t 0 0) 0
-      none true = refl
-      none false = refl
-
       held_then : (b v : ℕ) → held after.entries b v + cond (nat_eq a b && nat_eq u v) (count spot_cmp before.entries (spot a u m)) 0 ≡ held before.entries b v + cond (nat_eq a b && nat_eq u v) is.number 0
       held_then b v = subst (λ (t : TableRecord). held t.entries b v + cond (nat_eq a b && nat_eq u v) (count spot_cmp before.entries (spot a u m)) 0 ≡ held before.entries b v + cond (nat_eq a b && nat_eq u v) is.number 0) (sym is.is)
-          (sum_set (λ s n. cond (nat_eq s.job b && nat_eq s.unit v) n 0) (λ s. none (nat_eq s.job b && nat_eq s.unit v)) (spot a u m) is.number before.entries is.sound.counts.sorted)
+          (sum_set (λ s n. cond (nat_eq s.job b && nat_eq s.unit v) n 0) (λ s. zero_either (nat_eq s.job b && nat_eq s.unit v)) (spot a u m) is.number before.entries is.sound.counts.sorted)
 
       out_then : (b v : ℕ) → nat_eq a b ≡ false → out_of (asks_in cells) after.entries b v ≡ out_of (asks_in cells) before.entries b v
       out_then b v f =
@@ -226,8 +214,4 @@ module _ (calm calm' : List Bool) (a : ℕ) (less : (b : ℕ) → get_or calm' b
 pub others_stay : (line : List Pair) (a u b v : ℕ) → nat_eq a b ≡ false → has_pair (b, v) (filter (λ p. not (nat_eq p.0 a && nat_eq p.1 u)) line) ≡ has_pair (b, v) line
 others_stay line a u b v f =
     let g : nat_eq b a ≡ false = grind (arith, nat_tests, f) in
-    has_filter (λ p. not (nat_eq p.0 a && nat_eq p.1 u)) (b, v) line ∙ ap (λ t. has_pair (b, v) line && not (t && nat_eq v u)) g ∙ on (has_pair (b, v) line)
-  where
-    on : (x : Bool) → (x && true) ≡ x
-    on true = refl
-    on false = refl
+    has_filter (λ p. not (nat_eq p.0 a && nat_eq p.1 u)) (b, v) line ∙ ap (λ t. has_pair (b, v) line && not (t && nat_eq v u)) g ∙ and_with_true (has_pair (b, v) line)

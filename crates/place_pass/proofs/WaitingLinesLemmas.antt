@@ -14,7 +14,7 @@ use Rattle.fuxi_terms.proofs.Lists.{length-below}
 use Rattle.grant_table.specs.GrantTables.{as_known}
 use Rattle.fuxi_terms.specs.Lists.{below}
 use Rattle.fuxi_terms.specs.Numbers.{has_number}
-use Rattle.fuxi_terms.proofs.Booleans.{both_true, number_is, nat_itself, or_right, and_false}
+use Rattle.fuxi_terms.proofs.Booleans.{both_true, number_is, nat_itself, or_right, and_false, both_false}
 use Rattle.fuxi_terms.specs.Keys.{Pair}
 use Rattle.written_roles.specs.Placing.{has_pair}
 use Rattle.place_pass.specs.Cells.{Cell}
@@ -41,21 +41,13 @@ pub any_append : {A : Type 0} (f : A → Bool) (xs ys : List A) → list_any f (
 any_append f [] ys = refl
 any_append f (x ∷ xs) ys = elim (f x) as (λ b. (b || list_any f (xs ++ ys)) ≡ ((b || list_any f xs) || list_any f ys)) [ true ↦ refl | false ↦ any_append f xs ys ]
 
-pub neither : (a b : Bool) → (a || b) ≡ false → (a ≡ false) × (b ≡ false)
-neither true b e = cc
-neither false b e = (refl, e)
-
 pub either_one : (a b : Bool) → (a || b) ≡ true → (a ≡ true) ⊎ (b ≡ true)
 either_one true b e = inl refl
 either_one false b e = inr e
 
-pub or_none : (a b : Bool) → a ≡ false → b ≡ false → (a || b) ≡ false
-or_none true b e f = cc
-or_none false b e f = f
-
 pub none_filter : {A : Type 0} (f q : A → Bool) (xs : List A) → list_any f xs ≡ false → list_any f (filter q xs) ≡ false
 none_filter f q [] e = refl
-none_filter f q (x ∷ xs) e = let n = neither (f x) (list_any f xs) e in elim (q x) as (λ b. list_any f (cond b (x ∷ filter q xs) (filter q xs)) ≡ false) [
+none_filter f q (x ∷ xs) e = let n = both_false (f x) (list_any f xs) e in elim (q x) as (λ b. list_any f (cond b (x ∷ filter q xs) (filter q xs)) ≡ false) [
   | true ↦ ap (λ b. b || list_any f (filter q xs)) n.0 ∙ none_filter f q xs n.1
   | false ↦ none_filter f q xs n.1
 ]
@@ -205,7 +197,7 @@ room_left cells pairs a u h d new lt =
   where
     apart : (ks : List Pair) → has_pair (a, u) ks ≡ false → AllByRecursion (λ y. same_pair (a, u) y ≡ false) ks
     apart [] e = tt
-    apart (k ∷ ks) e = let n = neither (same_pair (a, u) k) (has_pair (a, u) ks) e in (n.0, apart ks n.1)
+    apart (k ∷ ks) e = let n = both_false (same_pair (a, u) k) (has_pair (a, u) ks) e in (n.0, apart ks n.1)
 
     member : (q : Pair) (ks : List Pair) → has_pair q ks ≡ true → AreAdmitted cells ks → has_pair q (pairs_from 0 cells) ≡ true
     member q [] e h = cc

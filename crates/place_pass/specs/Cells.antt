@@ -1,5 +1,5 @@
 -- What the program keeps of one unit, and what is asked at a key.
-use Rattle.std.specs.Prelude.{◌≡◌, ℕ, ◌+◌, ◌*◌, ◌<◌, ◌≤◌, Bool, cond, nat_eq, nat_lt, ◌&&◌, ◌||◌, List, [], ◌∷◌, length, map, take, drop, replicate, Option, Some, None, true}
+use Rattle.std.specs.Prelude.{◌≡◌, ℕ, ◌+◌, ◌-◌, ◌*◌, ◌<◌, ◌≤◌, Bool, cond, nat_eq, nat_lt, ◌&&◌, ◌||◌, List, [], ◌∷◌, ◌++◌, length, map, take, drop, replicate, Option, Some, None, true}
 use Rattle.std.specs.Global.{Vec}
 use Rattle.std.specs.List.{list_any}
 use Rattle.std.proofs.Common.{get_or}
@@ -41,6 +41,10 @@ cells_in v = map cell_of v.items
 
 abbrev pub cells_of : List (Vec Wish) → List (List Cell)
 cells_of slots = map cells_in slots
+
+-- the same for each job number there may be, with no unit where there is no slot yet
+abbrev pub all_cells : List (Vec Wish) → List (List Cell)
+all_cells slots = cells_of slots ++ replicate (most_jobs - length slots) []
 
 abbrev pub no_cell : Cell
 no_cell = record { unit = no_unit; group = 0; want = 0; near = []; racks = []; avoided = [] }
@@ -134,7 +138,7 @@ pub record WishesRecord : Type 0 where
   pub opened : List Bool
 
 abbrev pub wishes_record : ClusterRecord → List (Vec Wish) → List Bool → WishesRecord
-wishes_record c slots open_machines = record { cluster = c; cells = cells_of slots; opened = open_machines }
+wishes_record c slots open_machines = record { cluster = c; cells = all_cells slots; opened = open_machines }
 
 -- a unit has a place for each machine and rack, and is of the group of its job
 pub record IsWish (c : ClusterRecord) (first : Cell) (x : Cell) : Type 0 where

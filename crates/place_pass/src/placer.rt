@@ -140,7 +140,7 @@ impl Placer {
         let fresh = fresh_units(alloc, job, machines)?;
         self.tree.admit(alloc, job)?;
         limit_all(&mut self.marks, self.turns);
-        self.wishes.add_job(job, fresh);
+        self.wishes.add_job(alloc, job, fresh);
         self.calm.stir(job.app());
         self.units = units;
         Ok(())

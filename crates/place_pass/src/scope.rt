@@ -35,13 +35,12 @@ pub(crate) enum Scope<'a> {
 impl Wishes {
     ghost use Rattle.std.specs.Prelude.{◌≡◌, ℕ, ◌<◌, [], length, set};
     ghost use Rattle.std.proofs.Common.{get_or};
-    ghost use Rattle.fuxi_terms.specs.Limits.{most_jobs};
     ghost use Rattle.place_pass.specs.Cells.{taken_all, any_more};
     ghost use Rattle.place_pass.specs.DemandScopes.{AsksWithin};
 
     /// The demand of a job is now this one. True where one of its units wants more, or no longer avoids a machine.
     pub(crate) fn hear(&mut self, app: AppNo, demand: &Demand, scope: &Scope) -> bool
-        requires job { app.0 < most_jobs }
+        requires here { 0 < length (get_or self.old.cells app.0 []) }
         requires within { AsksWithin scope.now self.old.cluster demand.now.entries (get_or self.old.cells app.0 []) }
         ensures cells { self.new ≡ record self.old { cells = set self.old.cells app.0 (taken_all self.old.cluster demand.now.entries 0 (get_or self.old.cells app.0 [])) } }
         ensures more { result ≡ any_more self.old.cluster demand.now.entries (get_or self.old.cells app.0 []) (length (get_or self.old.cells app.0 [])) }

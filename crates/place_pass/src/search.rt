@@ -110,7 +110,7 @@ impl Wishes {
     {
         let wish = self.wish(app, unit);
         let group = group_or_none(table.cluster(), wish.group);
-        allows(&group, &table.used_by(wish.group), &wish.size)
+        allows(&group, table.used_by(wish.group), &wish.size)
     }
 
     // Whether a machine of which this is all that is free has room for the unit.

@@ -1,6 +1,6 @@
 //! What the admitted units are and what is asked of them, by job number and unit, and the machines that are open.
 
-ghost use Rattle.std.specs.Prelude.{◌≡◌, ℕ, ◌+◌, ◌<◌, ◌≤◌, ◌++◌, ◌&&◌, ◌||◌, Bool, T, true, false, nat_eq, nat_lt, min, cond, [], length, set, replicate, IfOk};
+ghost use Rattle.std.specs.Prelude.{◌≡◌, ℕ, ◌+◌, ◌<◌, ◌≤◌, ◌++◌, ◌&&◌, ◌||◌, Bool, T, true, false, nat_eq, nat_lt, min, cond, [], length, set, replicate, IfOk, vec_capacity};
 ghost use Rattle.std.specs.FinMap.Entries.{is_sorted};
 ghost use Rattle.std.proofs.Common.{get_or};
 ghost use Rattle.std.specs.List.{list_any};
@@ -13,7 +13,7 @@ ghost use Rattle.fuxi_terms.specs.Vectors.{fits};
 ghost use Rattle.std.specs.Ordering.{is_lt};
 ghost use Rattle.fuxi_terms.specs.Lists.{below};
 ghost use Rattle.place_pass.specs.DemandWalks.{IsPast, IsNextAsked};
-ghost use Rattle.place_pass.specs.Cells.{cell_of, cells_in, cells_of, cell_at, no_cell, fresh_cells, numbers_at, racks_at, taken, taken_all, is_gone, any_gone, asks_more, any_more};
+ghost use Rattle.place_pass.specs.Cells.{cell_of, cells_in, cells_of, all_cells, cell_at, no_cell, fresh_cells, numbers_at, racks_at, taken, taken_all, is_gone, any_gone, asks_more, any_more};
 
 use crate::changes::write_changes;
 use crate::sparse::is_clear;
@@ -81,7 +81,8 @@ impl Wish {
 #[derive(Drop)]
 pub(crate) struct Wishes {
     pub(crate) cluster: Cluster,
-    /// By job number, with no unit where no such job is admitted.
+    /// By job number, with no unit where no such job is admitted. There is room for all numbers, and a place for each up to the
+    /// greatest that was admitted.
     slots: Vec<Vec<Wish>>,
     /// By machine.
     opened: Vec<bool>,
@@ -90,13 +91,15 @@ pub(crate) struct Wishes {
 }
 
 impl Model for Wishes {
-    ghost use Rattle.place_pass.specs.Cells.{WishesRecord, wishes_record, AreWishes, AreAbove, cells_of};
+    ghost use Rattle.std.specs.Prelude.{◌≤◌, vec_capacity};
+    ghost use Rattle.fuxi_terms.specs.Limits.{most_jobs};
+    ghost use Rattle.place_pass.specs.Cells.{WishesRecord, wishes_record, AreWishes, AreAbove, all_cells};
 
     ghost Value = { WishesRecord };
 
     ghost view = { λ w. wishes_record w.cluster w.slots.items w.opened.items };
 
-    ghost invariant = { λ w. AreWishes w.cluster (cells_of w.slots.items) w.opened.items × AreAbove w.least.q (cells_of w.slots.items) };
+    ghost invariant = { λ w. AreWishes w.cluster (all_cells w.slots.items) w.opened.items × AreAbove w.least.q (all_cells w.slots.items) × (most_jobs ≤ vec_capacity w.slots) };
 }
 
 impl Wishes {
@@ -116,7 +119,7 @@ impl Wishes {
         let machines = cluster.machines() as usize;
         Ok(Wishes {
             cluster: cluster.copy(alloc)?,
-            slots: empty_slots(alloc)?,
+            slots: Vec::with_capacity(alloc, MOST_JOBS as usize)?,
             opened: Vec::from_elem(alloc, false, machines)?,
             least: Res { q: [u64::MAX; 8] },
         })
@@ -131,18 +134,20 @@ impl Wishes {
     }
 
     /// A job more, of whose units nothing is asked.
-    pub(crate) fn add_job(&mut self, job: &Job, units: Vec<Wish>)
+    pub(crate) fn add_job(&mut self, alloc: Global, job: &Job, units: Vec<Wish>)
         requires { cells_in units ≡ fresh_cells job.now.group (length self.old.cluster.machines) job.now.units }
         ensures { self.new ≡ record self.old { cells = set self.old.cells job.now.number (fresh_cells job.now.group (length self.old.cluster.machines) job.now.units) } }
     {
+        let app = job.app();
         self.least = least_of(&self.least, &units);
-        self.slots[job.app().0 as usize] = units;
+        reach(alloc, &mut self.slots, app);
+        self.slots[app.0 as usize] = units;
     }
 
     /// The demand of a job is now this one, which asks the same as before of all units but those that may differ. True where one
     /// of its units wants more, or no longer avoids a machine.
     pub(crate) fn asked(&mut self, app: AppNo, demand: &Demand, differing: &[bool; 8]) -> bool
-        requires job { app.0 < most_jobs }
+        requires here { 0 < length (get_or self.old.cells app.0 []) }
         requires same { (u : ℕ) → u < length (get_or self.old.cells app.0 []) → get_or differing.now u true ≡ false → taken self.old.cluster demand.now.entries u (cell_at self.old.cells app.0 u) ≡ cell_at self.old.cells app.0 u }
         ensures cells { self.new ≡ record self.old { cells = set self.old.cells app.0 (taken_all self.old.cluster demand.now.entries 0 (get_or self.old.cells app.0 [])) } }
         ensures more { result ≡ any_more self.old.cluster demand.now.entries (get_or self.old.cells app.0 []) (length (get_or self.old.cells app.0 [])) }
@@ -154,7 +159,7 @@ impl Wishes {
 
     /// The same, of a demand that asks otherwise than before only at keys that these changes name.
     pub(crate) fn asked_at(&mut self, app: AppNo, demand: &Demand, changes: &[(Key, i64)]) -> bool
-        requires job { app.0 < most_jobs }
+        requires here { 0 < length (get_or self.old.cells app.0 []) }
         requires same { AsksSameBut changes.now self.old.cluster demand.now.entries (get_or self.old.cells app.0 []) }
         ensures cells { self.new ≡ record self.old { cells = set self.old.cells app.0 (taken_all self.old.cluster demand.now.entries 0 (get_or self.old.cells app.0 [])) } }
         ensures more { result ≡ any_more self.old.cluster demand.now.entries (get_or self.old.cells app.0 []) (length (get_or self.old.cells app.0 [])) }
@@ -342,17 +347,13 @@ fn wish_at(slots: &[Vec<Wish>], app: usize, unit: usize) -> &Wish
     &units[unit]
 }
 
-// Nothing is wanted on a machine or in a rack, and no machine is avoided. It is filled in two steps, since from 2048 bytes on memset
-// takes another path, which counts an instruction a byte.
+// Nothing is wanted on a machine or in a rack, and no machine is avoided.
 fn nothing_asked(alloc: Global, machines: u32) -> Result<Vec<u32>, OutOfMemory>
     ensures { IfOk result (λ asked. asked.items ≡ replicate (machines + 64) 0 ++ replicate machines 0) }
 {
     let wanted = machines as usize + RACKS;
     let all = wanted + machines as usize;
-    let mut asked = Vec::with_capacity(alloc, all)?;
-    asked.resize(wanted, 0)?;
-    asked.resize(all, 0)?;
-    Ok(asked)
+    Ok(Vec::from_elem(alloc, 0, all)?)
 }
 
 /// The units of a new job, of which nothing is asked.
@@ -380,15 +381,20 @@ pub(crate) fn fresh_units(alloc: Global, job: &Job, machines: u32) -> Result<Vec
     Ok(units)
 }
 
-// A place for each job number, with no unit at any.
-fn empty_slots(alloc: Global) -> Result<Vec<Vec<Wish>>, OutOfMemory>
-    ensures { IfOk result (λ slots. cells_of slots.items ≡ replicate most_jobs []) }
+// Places with no unit, up to a job number. There is room for all numbers, so it takes no memory.
+fn reach(alloc: Global, slots: &mut Vec<Vec<Wish>>, app: AppNo)
+    requires number { app.0 < most_jobs }
+    requires room { most_jobs ≤ vec_capacity slots.old }
+    ensures same { all_cells slots.new.items ≡ all_cells slots.old.items }
+    ensures there { app.0 < length slots.new.items }
+    ensures room { most_jobs ≤ vec_capacity slots.new }
 {
-    let mut slots = Vec::with_capacity(alloc, MOST_JOBS as usize)?;
-    for _ in 0..MOST_JOBS {
-        slots.push(Vec::new(alloc))?;
+    for place in slots.len()..app.0 as usize + 1 {
+        match slots.push(Vec::new(alloc)) {
+            Ok(()) => {}
+            Err(_) => unreachable!(),
+        }
     }
-    Ok(slots)
 }
 
 // Each unit of a job that may differ takes its part of the demand. True where one wants more, or no longer avoids a machine.

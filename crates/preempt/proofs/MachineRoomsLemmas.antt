@@ -40,7 +40,7 @@ pub record AreLeft (groups : List GroupUse) (shelf : Shelf) (spared : List Entry
   pub all_are : (i : ℕ) → i < 8 → slice_index all i ≡ slice_index lower i + spared_in n i spared
   pub used_are : (i : ℕ) → i < 8 → slice_index used i ≡ slice_index shelf.has i - slice_index shelf.free i
   pub room_are : (i : ℕ) → i < n.resources → slice_index room i ≡ min ((slice_index shelf.has i + slice_index all i) - slice_index used i)
-      ((slice_index (get_or groups n.group no_group).limit.now i + slice_index lower i) - slice_index (get_or groups n.group no_group).used i)
+      ((slice_index (get_or groups n.group no_group).limit.now i + slice_index lower i) - slice_index (get_or groups n.group no_group).used.now i)
 
 pub beyond_none : (t : TableRecord) (groups : List GroupUse) (m : ℕ) (shelf : Shelf) (spared_here : List Entry) (n : Need) (room : List ℕ) (a u i : ℕ)
     → AreGroups t groups → IsShelf t m shelf → AreSpared t m shelf.entries.now spared_here → AreLeft groups shelf spared_here n room → n.group < 32 → n.group ≡ group_of (as_known t.jobs) a → n.priority ≡ priority_of (as_known t.jobs) a u
@@ -118,21 +118,21 @@ some_fails (suc n) test e = by (below_each n test) refl (test n) refl (some_fail
 
 module _ (t : TableRecord) (e : Entry) (h : IsEntry t e) (n : Need) (wanted : IsWanted t e.app.0 e.unit.0 n) where
   -- where some number of a room, or of one that it is narrower than, is below the size
-  beyond_room : (m : ℕ) (room wide : List ℕ) → IsRoom t n.group n.priority n.guaranteed m room → IsNarrower t.cluster.resources wide room → below_each n.resources (within_at e.size wide) ≡ false
+  beyond_room : (m : ℕ) (room wide : List ℕ) → IsRoom t n.group n.priority n.guaranteed m room → IsNarrower t.cluster.resources wide room → below_each n.resources (within_at e.size.now wide) ≡ false
       → victims_in (board_of t) t.entries (spot e.app.0 e.unit.0 m) ≡ None
   beyond_room m room wide is narrower f =
-      let fails = some_fails n.resources (within_at e.size wide) f in
+      let fails = some_fails n.resources (within_at e.size.now wide) f in
       let i = fails.place in
       let inside = fails.inside in
       let resources = wanted.resources in
       let lt : i < t.cluster.resources = omega (arith, inside, resources) in
-      let test : nat_lt (slice_index wide i) (slice_index e.size i) ≡ true = not_false (nat_lt (slice_index wide i) (slice_index e.size i)) fails.is in
-      let less : slice_index wide i < slice_index e.size i = grind (arith, nat_tests, test) in
+      let test : nat_lt (slice_index wide i) (slice_index e.size.now i) ≡ true = not_false (nat_lt (slice_index wide i) (slice_index e.size.now i)) fails.is in
+      let less : slice_index wide i < slice_index e.size.now i = grind (arith, nat_tests, test) in
       let le = narrower.each i lt in
       let size = size_is t e h i in
       is.beyond e.app.0 e.unit.0 i wanted.group wanted.priority wanted.guaranteed lt (omega (arith, less, le, size))
 
-  pub machine_beyond : (rooms : List Sums) (m : ℕ) → AreRoomsFor t n rooms → m < length t.cluster.machines → below_each n.resources (within_at e.size (get_or rooms m no_sums).q) ≡ false
+  pub machine_beyond : (rooms : List Sums) (m : ℕ) → AreRoomsFor t n rooms → m < length t.cluster.machines → below_each n.resources (within_at e.size.now (get_or rooms m no_sums).q) ≡ false
       → victims_in (board_of t) t.entries (spot e.app.0 e.unit.0 m) ≡ None
   machine_beyond rooms m are lt f =
       let long = are.long in
@@ -141,17 +141,17 @@ module _ (t : TableRecord) (e : Entry) (h : IsEntry t e) (n : Need) (wanted : Is
 
 -- where the widest of the rooms of its kind is not wide enough for a unit
 pub kind_beyond : (t : TableRecord) (e : Entry) → IsEntry t e → (r : Rooms) → AreRooms t r → IsKindOf t e r → is_narrow t.cluster (size_at (as_known t.jobs) e.app.0 e.unit.0) ≡ true → (resources : ℕ) → resources ≡ t.cluster.resources
-    → below_each resources (within_at e.size r.widest) ≡ false → (m : ℕ) → m < length t.cluster.machines → victims_in (board_of t) t.entries (spot e.app.0 e.unit.0 m) ≡ None
+    → below_each resources (within_at e.size.now r.widest) ≡ false → (m : ℕ) → m < length t.cluster.machines → victims_in (board_of t) t.entries (spot e.app.0 e.unit.0 m) ≡ None
 kind_beyond t e h r are kind narrow resources same f m lt =
     let long = are.long in
     let x = get_or r.each.items m no_sums in
     let there = got (λ _. true) r.each.items m no_sums (omega (arith, lt, long)) in
-    let fails = some_fails resources (within_at e.size r.widest) f in
+    let fails = some_fails resources (within_at e.size.now r.widest) f in
     let i = fails.place in
     let inside = fails.inside in
     let i_lt : i < t.cluster.resources = omega (arith, inside, same) in
-    let test : nat_lt (slice_index r.widest i) (slice_index e.size i) ≡ true = not_false (nat_lt (slice_index r.widest i) (slice_index e.size i)) fails.is in
-    let less : slice_index r.widest i < slice_index e.size i = grind (arith, nat_tests, test) in
+    let test : nat_lt (slice_index r.widest i) (slice_index e.size.now i) ≡ true = not_false (nat_lt (slice_index r.widest i) (slice_index e.size.now i)) fails.is in
+    let less : slice_index r.widest i < slice_index e.size.now i = grind (arith, nat_tests, test) in
     let le = (are.narrower m x there).each i i_lt in
     let size = size_is t e h i in
     (are.rooms m x there).beyond e.app.0 e.unit.0 i (kind.group ∙ h.group) (kind.priority ∙ h.priority) (kind.guaranteed narrow) i_lt (omega (arith, less, le, size))

@@ -32,13 +32,13 @@ module _ (t : TableRecord) (e : Entry) (h : IsEntry t e) where
   u : ℕ
   u = e.unit.0
 
-  pub narrow_is : (resources : ℕ) → resources ≡ t.cluster.resources → below_each 8 (narrow_at resources e.size) ≡ is_narrow t.cluster (size_at (as_known t.jobs) e.app.0 e.unit.0)
-  narrow_is resources is = each_same 8 (narrow_at resources e.size) (λ i. nat_lt i t.cluster.resources || nat_eq (size_at (as_known t.jobs) e.app.0 e.unit.0 i) 0)
+  pub narrow_is : (resources : ℕ) → resources ≡ t.cluster.resources → below_each 8 (narrow_at resources e.size.now) ≡ is_narrow t.cluster (size_at (as_known t.jobs) e.app.0 e.unit.0)
+  narrow_is resources is = each_same 8 (narrow_at resources e.size.now) (λ i. nat_lt i t.cluster.resources || nat_eq (size_at (as_known t.jobs) e.app.0 e.unit.0 i) 0)
       (λ i lt. λ k. nat_lt i (is k) || nat_eq (size_is t e h i k) 0)
 
   pub guaranteed_is : (resources : ℕ) (g : GroupUse) (allowed zeros : List ℕ) → resources ≡ t.cluster.resources → IsGroup t e.group g → t.cluster.resources ≤ 8 → is_narrow t.cluster (size_at (as_known t.jobs) e.app.0 e.unit.0) ≡ true
       → ((i : ℕ) → i < 8 → get_or zeros i 0 ≡ 0)
-      → ((i : ℕ) → i < 8 → slice_index allowed i ≡ slice_index g.used i + slice_index e.size i) → below_each resources (reach_in g.quota.now zeros allowed) ≡ is_guaranteed_in (board_of t) t.entries (spot e.app.0 e.unit.0 0)
+      → ((i : ℕ) → i < 8 → slice_index allowed i ≡ slice_index g.used.now i + slice_index e.size.now i) → below_each resources (reach_in g.quota.now zeros allowed) ≡ is_guaranteed_in (board_of t) t.entries (spot e.app.0 e.unit.0 0)
   guaranteed_is resources g allowed zeros is group few narrow none sum =
       let gr = group_of (as_known t.jobs) e.app.0 in
       let test : ℕ → Bool = λ i. not (nat_lt (quota_at t.cluster gr i) (usage_at (as_known t.jobs) gr i t.entries + size_at (as_known t.jobs) e.app.0 e.unit.0 i)) in
@@ -55,7 +55,7 @@ module _ (t : TableRecord) (e : Entry) (h : IsEntry t e) where
 
   pub need_on : (n on : Need) (m : ℕ) (s : Shelf) → IsWanted t e.app.0 e.unit.0 n → IsShelf t m s → t.cluster.resources ≤ 8
       → on.resources ≡ n.resources → on.group ≡ n.group → on.priority ≡ n.priority → on.guaranteed ≡ n.guaranteed → on.has ≡ s.has → on.limit ≡ n.limit → on.allowed ≡ n.allowed
-      → ((i : ℕ) → i < 8 → slice_index on.fits i ≡ slice_index s.has i - slice_index s.free i + slice_index e.size i) → IsNeed t (spot e.app.0 e.unit.0 m) on
+      → ((i : ℕ) → i < 8 → slice_index on.fits i ≡ slice_index s.has i - slice_index s.free i + slice_index e.size.now i) → IsNeed t (spot e.app.0 e.unit.0 m) on
   need_on n on m s w is few resources group priority guaranteed has limit allowed fits = record {
     resources = resources ∙ w.resources;
     narrow = w.narrow;

@@ -269,7 +269,7 @@ module _ (B : Board) (t : TableRecord) (usable : ℕ → ℕ → ℕ → Bool) (
 
 -- ---- a unit of the line that has the priority which is searched
 abbrev pub no_entry : Entry
-no_entry = record { app = record { 0 = 0 }; unit = record { 0 = 0 }; group = 0; priority = 0; count = 0; size = [] }
+no_entry = record { app = record { 0 = 0 }; unit = record { 0 = 0 }; group = 0; priority = 0; count = 0; size = record { ref_ptr = (0, 0); now = [] } }
 
 -- and what a unit has by machine
 abbrev pub no_row : Bor (List ℕ)

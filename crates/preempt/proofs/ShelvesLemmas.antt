@@ -129,17 +129,17 @@ wanted_like t a u m n w = record { group = w.group; priority = w.priority; guara
 
 module _ (t : TableRecord) (groups : List GroupUse) (are : AreGroups t groups) (few : t.cluster.resources ≤ 8) where
   -- a group spares one grant beside nothing
-  pub spares_beside : (m : ℕ) (e : Entry) → IsEntry t e → is_spared_in (board_of t) t.entries [] (spot e.app.0 e.unit.0 m) ≡ spares t.cluster.resources (get_or groups e.group no_group) e.size
+  pub spares_beside : (m : ℕ) (e : Entry) → IsEntry t e → is_spared_in (board_of t) t.entries [] (spot e.app.0 e.unit.0 m) ≡ spares t.cluster.resources (get_or groups e.group no_group) e.size.now
   spares_beside m e h =
       let g = are.each e.group h.small in
       let gr = group_of (as_known t.jobs) e.app.0 in
       let x = get_or groups e.group no_group in
-      each_same t.cluster.resources (λ i. not (nat_lt (usage_at (as_known t.jobs) gr i t.entries) (quota_at t.cluster gr i + 0 + size_at (as_known t.jobs) e.app.0 e.unit.0 i))) (spares_at x e.size)
+      each_same t.cluster.resources (λ i. not (nat_lt (usage_at (as_known t.jobs) gr i t.entries) (quota_at t.cluster gr i + 0 + size_at (as_known t.jobs) e.app.0 e.unit.0 i))) (spares_at x e.size.now)
       (λ i lt.
       let u = g.used i lt ∙ ap (λ k. usage_at (as_known t.jobs) k i t.entries) h.group in
       let q = g.quota i lt ∙ ap (λ k. quota_at t.cluster k i) h.group in
       let s = size_is t e h i in
-      let z : quota_at t.cluster gr i + 0 + size_at (as_known t.jobs) e.app.0 e.unit.0 i ≡ slice_index x.quota.now i + slice_index e.size i = omega (arith, q, s) in
+      let z : quota_at t.cluster gr i + 0 + size_at (as_known t.jobs) e.app.0 e.unit.0 i ≡ slice_index x.quota.now i + slice_index e.size.now i = omega (arith, q, s) in
       λ k. not (nat_lt (sym u k) (z k)))
 
   closed_entry : (s : Spot) (n : Need) (lowest : List ℕ) (loose : Loose) (e : Entry) → IsLike t s n → may_take_some n lowest loose ≡ false → IsEntry t e → IsLow lowest e → IsLoose t.cluster.resources groups loose e
@@ -187,8 +187,8 @@ module _ (t : TableRecord) (groups : List GroupUse) (are : AreGroups t groups) (
   pub may_is : (s : Spot) (n : Need) (e : Entry) → IsLike t s n → n.resources ≡ t.cluster.resources → IsEntry t e → may_take n groups e ≡ may_take_in (board_of t) t.entries s [] (spot e.app.0 e.unit.0 s.machine)
   may_is s n e w same h =
       let x = get_or groups e.group no_group in
-      let spared : spares n.resources x e.size ≡ is_spared_in (board_of t) t.entries [] (spot e.app.0 e.unit.0 s.machine) = ap (λ k. spares k x e.size) same ∙ sym (spares_beside s.machine e h) in
-      ap (λ b. cond (nat_eq e.group n.group) (nat_lt e.priority n.priority) b) (and_swap n.guaranteed (spares n.resources x e.size))
+      let spared : spares n.resources x e.size.now ≡ is_spared_in (board_of t) t.entries [] (spot e.app.0 e.unit.0 s.machine) = ap (λ k. spares k x e.size.now) same ∙ sym (spares_beside s.machine e h) in
+      ap (λ b. cond (nat_eq e.group n.group) (nat_lt e.priority n.priority) b) (and_swap n.guaranteed (spares n.resources x e.size.now))
       ∙ (λ i. cond (nat_eq (h.group i) (w.group i)) (nat_lt (h.priority i) (w.priority i)) (spared i && w.guaranteed i))
 
   -- none may be taken on any machine, by the units that have grants

@@ -100,7 +100,7 @@ module _ (tab : TableRecord) (m : ℕ) where
   module _ (entries : List Entry) (k : ℕ) (set : List Entry) (resources : ℕ) (groups : List GroupUse) (d : Entry) (part : List ℕ) (n : ℕ)
       (all : AllByRecursion (IsEntry tab) entries) (are : AreGroups tab groups) (res : resources ≡ tab.cluster.resources) (at : AtSpared entries k set) (lt : k < length entries) (few : resources ≤ 8)
       (p : (i : ℕ) → i < 8 → slice_index part i ≡ part_in (get_or entries k d).group i set)
-      (is : n ≡ least_of (get_or entries k d).count resources (spared_in_one (get_or groups (get_or entries k d).group no_group) part (get_or entries k d).size (get_or entries k d).count)) where
+      (is : n ≡ least_of (get_or entries k d).count resources (spared_in_one (get_or groups (get_or entries k d).group no_group) part (get_or entries k d).size.now (get_or entries k d).count)) where
     abbrev e : Entry
     e = get_or entries k d
 
@@ -118,8 +118,8 @@ module _ (tab : TableRecord) (m : ℕ) where
     same =
         let x = get_or groups e.group no_group in
         let group : IsGroup tab (group_of (as_known tab.jobs) e.app.0) x = subst (λ g. IsGroup tab g x) entry.group (are.each e.group entry.small) in
-        is ∙ ap (λ j. least_of e.count j (spared_in_one x part e.size e.count)) res
-        ∙ least_same e.count tab.cluster.resources (spared_in_one x part e.size e.count) (spared_at (board_of tab) tab.entries (singles (entries_at set)) s e.count)
+        is ∙ ap (λ j. least_of e.count j (spared_in_one x part e.size.now e.count)) res
+        ∙ least_same e.count tab.cluster.resources (spared_in_one x part e.size.now e.count) (spared_at (board_of tab) tab.entries (singles (entries_at set)) s e.count)
         (λ i i_lt.
         let q = p i (omega (arith, i_lt, few, res)) ∙ (part_is tab m e.group i set i_lt at.each ∙ ap (λ g. part_by (group_of (as_known tab.jobs)) (size_at (as_known tab.jobs)) g i (singles (entries_at set))) entry.group) in
         λ j. times_within (group.quota i i_lt j + q j) (group.used i i_lt j) (size_is tab e entry i j) e.count)
@@ -163,9 +163,9 @@ module _ (tab : TableRecord) (m : ℕ) where
     lower_is group priority [] h = refl
     lower_is group priority (e ∷ es) h =
         let rest = lower_is group priority es h.1 in
-        let x = sum_by-cons (λ (e : Entry). cond (nat_eq e.group n.group && nat_lt e.priority n.priority) e.count 0 * slice_index e.size i) e es in
+        let x = sum_by-cons (λ (e : Entry). cond (nat_eq e.group n.group && nat_lt e.priority n.priority) e.count 0 * slice_index e.size.now i) e es in
         let y = sum_by-cons (lower_weight (board_of tab) tab.entries (spot a u m) i) (written m e) (entries_at es) in
-        let here : cond (nat_eq e.group n.group && nat_lt e.priority n.priority) e.count 0 * slice_index e.size i ≡ lower_weight (board_of tab) tab.entries (spot a u m) i (written m e) =
+        let here : cond (nat_eq e.group n.group && nat_lt e.priority n.priority) e.count 0 * slice_index e.size.now i ≡ lower_weight (board_of tab) tab.entries (spot a u m) i (written m e) =
         λ j. cond (nat_eq (h.0.group j) (group j) && nat_lt (h.0.priority j) (priority j)) e.count 0 * size_is tab e h.0 i j in
         omega (arith, rest, x, y, here)
 
@@ -174,8 +174,8 @@ module _ (tab : TableRecord) (m : ℕ) where
     spared_is group guaranteed [] h = refl
     spared_is group guaranteed (e ∷ es) h =
         let rest = spared_is group guaranteed es h.1 in
-        let x = sum_by-cons (λ (e : Entry). cond (n.guaranteed && not (nat_eq e.group n.group)) e.count 0 * slice_index e.size i) e es in
+        let x = sum_by-cons (λ (e : Entry). cond (n.guaranteed && not (nat_eq e.group n.group)) e.count 0 * slice_index e.size.now i) e es in
         let y = sum_by-cons (spared_weight (board_of tab) tab.entries (spot a u m) i) (written m e) (entries_at es) in
-        let here : cond (n.guaranteed && not (nat_eq e.group n.group)) e.count 0 * slice_index e.size i ≡ spared_weight (board_of tab) tab.entries (spot a u m) i (written m e) =
+        let here : cond (n.guaranteed && not (nat_eq e.group n.group)) e.count 0 * slice_index e.size.now i ≡ spared_weight (board_of tab) tab.entries (spot a u m) i (written m e) =
         λ j. cond (guaranteed j && not (nat_eq (h.0.group j) (group j))) e.count 0 * size_is tab e h.0 i j in
         omega (arith, rest, x, y, here)

@@ -1,5 +1,5 @@
 -- One step of each loop that lists units.
-use Rattle.std.proofs.Common.{◌≡◌, ℕ, zero, suc, ◌+◌, ◌-◌, ◌<◌, ◌≤◌, Bool, true, false, cond, nat_eq, nat_lt, List, [], ◌∷◌, ◌++◌, length, map, filter, get_or, take, Some, refl, sym, ◌∙◌, ap, arith, append_assoc}
+use Rattle.std.proofs.Common.{◌≡◌, ℕ, zero, suc, ◌+◌, ◌-◌, ◌<◌, ◌≤◌, Bool, true, false, cond, nat_eq, nat_lt, List, [], ◌∷◌, ◌++◌, length, map, filter, get_or, take, Some, refl, sym, ◌∙◌, ap, arith, append_assoc, add-one}
 use Rattle.std.specs.Prelude.{◌&&◌, slice_get, Option}
 use Rattle.std.specs.Option.{unwrap_or, option_map}
 use Rattle.std.specs.List.{AllByRecursion, flat_map}
@@ -34,7 +34,7 @@ units_counted t s i j at = ap (λ (o : Option KnownJob). length (unwrap_or (opti
 
 -- a unit of the job at a place is an entry
 pub entry_found : (t : TableRecord) → IsSound t → (i : ℕ) (j : JobRecord) → slice_get t.jobs i ≡ Some j → (u : ℕ) (x : UnitRecord) → slice_get j.units u ≡ Some x → u < length j.units
-    → (e : Entry) → e.app.0 ≡ j.number → e.unit.0 ≡ u → e.group ≡ j.group → e.priority ≡ x.priority → e.size ≡ x.size → IsEntry t e
+    → (e : Entry) → e.app.0 ≡ j.number → e.unit.0 ≡ u → e.group ≡ j.group → e.priority ≡ x.priority → e.size.now ≡ x.size → IsEntry t e
 entry_found t s i j at u x is lt e app unit group priority size =
     let f = job_found t.jobs s.in_order i j at in
     let g = group_valid j (valid_at t.jobs s.in_order i j at) in
@@ -154,6 +154,14 @@ filter_few test [] = omega arith
 filter_few test (p ∷ ps) = let r = filter_few test ps in elim (test p) as (λ b. length (cond b (p ∷ filter test ps) (filter test ps)) ≤ length (p ∷ ps)) [ true ↦ omega (arith, r) | false ↦ omega (arith, r) ]
 
 -- one job more
+-- of the units of a job up to the next one those are taken that were taken before, and it
+pub holds_more : (test : Pair → Bool) (j : JobRecord) (n : ℕ) → test (j.number, n) ≡ true → filter test (units_in j (n + 1)) ≡ filter test (units_in j n) ++ (j.number, n) ∷ []
+holds_more test j n e =
+    ap (λ k. filter test (units_in j k)) (add-one n)
+    ∙ ap (filter test) (map-append (λ u. (j.number, u)) (below n) (n ∷ []))
+    ∙ filter-append test (units_in j n) ((j.number, n) ∷ [])
+    ∙ ap (λ b. filter test (units_in j n) ++ cond b ((j.number, n) ∷ []) []) e
+
 pub passed_units : (test : Pair → Bool) (js : List JobRecord) (i : ℕ) (j : JobRecord) → slice_get js i ≡ Some j → filter test (all_units (take (i + 1) js)) ≡ filter test (all_units (take i js)) ++ filter test (units_in j (length j.units))
 passed_units test js i j e = ap (filter test) (units_more js i j e) ∙ filter-append test (all_units (take i js)) (units_in j (length j.units))
 

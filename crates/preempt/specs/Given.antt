@@ -32,7 +32,7 @@ abbrev pub board_of : TableRecord → Board
 board_of t = board_at t (λ a u m. false)
 
 abbrev pub no_group : GroupUse
-no_group = record { quota = record { ref_ptr = (0, 0); now = [] }; limit = record { ref_ptr = (0, 0); now = [] }; used = [] }
+no_group = record { quota = record { ref_ptr = (0, 0); now = [] }; limit = record { ref_ptr = (0, 0); now = [] }; used = record { ref_ptr = (0, 0); now = [] } }
 
 abbrev pub written : ℕ → Entry → Spot × ℕ
 written m e = (spot e.app.0 e.unit.0 m, e.count)
@@ -46,7 +46,7 @@ pub record IsEntry (t : TableRecord) (e : Entry) : Type 0 where
   pub group : e.group ≡ group_of (as_known t.jobs) e.app.0
   pub small : e.group < 32
   pub priority : e.priority ≡ priority_of (as_known t.jobs) e.app.0 e.unit.0
-  pub size : e.size ≡ (unit_of (as_known t.jobs) e.app.0 e.unit.0).size
+  pub size : e.size.now ≡ (unit_of (as_known t.jobs) e.app.0 e.unit.0).size
 
 -- what one more grant at s needs
 pub record IsNeed (t : TableRecord) (s : Spot) (n : Need) : Type 0 where
@@ -63,7 +63,7 @@ pub record IsNeed (t : TableRecord) (s : Spot) (n : Need) : Type 0 where
 pub record IsGroup (t : TableRecord) (g : ℕ) (x : GroupUse) : Type 0 where
   pub quota : (i : ℕ) → i < t.cluster.resources → slice_index x.quota.now i ≡ quota_at t.cluster g i
   pub limit : (i : ℕ) → i < t.cluster.resources → slice_index x.limit.now i ≡ limit_at t.cluster g i
-  pub used : (i : ℕ) → i < t.cluster.resources → slice_index x.used i ≡ usage_at (as_known t.jobs) g i t.entries
+  pub used : (i : ℕ) → i < t.cluster.resources → slice_index x.used.now i ≡ usage_at (as_known t.jobs) g i t.entries
 
 pub record AreGroups (t : TableRecord) (groups : List GroupUse) : Type 0 where
   pub long : length groups ≡ 32

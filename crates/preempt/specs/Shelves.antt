@@ -53,7 +53,7 @@ pub record HasNoVictims (t : TableRecord) (p : Pair) : Type 0 where
 
 -- whether a group spares one grant of a size, in each of so many resources
 abbrev pub spares_at : GroupUse → List ℕ → ℕ → Bool
-spares_at g size i = not (nat_lt (slice_index g.used i) (slice_index g.quota.now i + slice_index size i))
+spares_at g size i = not (nat_lt (slice_index g.used.now i) (slice_index g.quota.now i + slice_index size i))
 
 abbrev pub spares : ℕ → GroupUse → List ℕ → Bool
 spares resources g size = below_each resources (spares_at g size)
@@ -74,7 +74,7 @@ pub record IsLow (lowest : List ℕ) (e : Entry) : Type 0 where
   pub least : get_or lowest e.group 0 ≤ e.priority
 
 pub record IsLoose (resources : ℕ) (groups : List GroupUse) (loose : Loose) (e : Entry) : Type 0 where
-  pub loosened : spares resources (get_or groups e.group no_group) e.size ≡ true → is_loose loose e.group ≡ true
+  pub loosened : spares resources (get_or groups e.group no_group) e.size.now ≡ true → is_loose loose e.group ≡ true
 
 pub record IsShelf (t : TableRecord) (m : ℕ) (s : Shelf) : Type 0 where
   pub walk : map (written m) s.entries.now ≡ entries_on (board_of t) t.entries m
@@ -106,7 +106,7 @@ pub record IsLike (t : TableRecord) (s : Spot) (n : Need) : Type 0 where
 
 -- whether any grant of a unit may be taken: of the own group by priority, of another where it spares one
 abbrev pub may_take : Need → List GroupUse → Entry → Bool
-may_take n groups e = cond (nat_eq e.group n.group) (nat_lt e.priority n.priority) (n.guaranteed && spares n.resources (get_or groups e.group no_group) e.size)
+may_take n groups e = cond (nat_eq e.group n.group) (nat_lt e.priority n.priority) (n.guaranteed && spares n.resources (get_or groups e.group no_group) e.size.now)
 
 -- a unit of which nothing may be taken on a machine
 pub record IsShut (t : TableRecord) (s : Spot) (e : Entry) : Type 0 where

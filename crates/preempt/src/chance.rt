@@ -16,7 +16,7 @@ use grant_table::GrantTable;
 fn may_take_of(
     table: &GrantTable,
     groups: &[GroupUse<'_>],
-    e: &Entry,
+    e: &Entry<'_>,
     lowest: &[u8; 32],
     loose: Loose,
 ) -> bool
@@ -41,8 +41,8 @@ fn may_take_of(
 pub(crate) fn may_any_take(
     table: &GrantTable,
     groups: &[GroupUse<'_>],
-    holders: &[Entry],
-    waiting: &[Entry],
+    holders: &[Entry<'_>],
+    waiting: &[Entry<'_>],
 ) -> bool
     requires groups { AreGroups table.now groups.now }
     requires each { AllByRecursion (IsEntry table.now) holders.now }

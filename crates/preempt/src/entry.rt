@@ -8,13 +8,13 @@ use schedule_unit::{AppNo, UnitNo};
 
 /// A unit, and how many grants it has or loses on a machine.
 #[derive(Clone, Copy)]
-pub(crate) struct Entry {
+pub(crate) struct Entry<'a> {
     pub(crate) app: AppNo,
     pub(crate) unit: UnitNo,
     pub(crate) group: usize,
     pub(crate) priority: u8,
     pub(crate) count: u32,
-    pub(crate) size: [u64; 8],
+    pub(crate) size: &'a [u64; 8],
 }
 
 /// What one more grant of a unit needs on a machine and in its group.
@@ -40,7 +40,7 @@ pub(crate) struct Need {
 pub(crate) struct GroupUse<'a> {
     pub(crate) quota: &'a [u64; 8],
     pub(crate) limit: &'a [u64; 8],
-    pub(crate) used: [u64; 8],
+    pub(crate) used: &'a [u64; 8],
 }
 
 /// What grants take of each resource.
@@ -50,7 +50,7 @@ pub(crate) struct Sums {
 }
 
 /// The same unit with another count.
-pub(crate) fn recounted(e: &Entry, count: u32) -> Entry
+pub(crate) fn recounted<'a>(e: &Entry<'a>, count: u32) -> Entry<'a>
     ensures { result ≡ recounted e.now count }
 {
     Entry { count, ..*e }
@@ -103,7 +103,7 @@ pub(crate) fn lowered(sums: &[u128; 8], size: &[u64; 8], count: u32) -> [u128; 8
 }
 
 // How many grants of an entry may be taken of the group that is served.
-fn lower_count(need: &Need, e: &Entry) -> u32
+fn lower_count(need: &Need, e: &Entry<'_>) -> u32
     ensures { result ≡ cond (nat_eq e.now.group need.now.group && nat_lt e.now.priority need.now.priority) e.now.count 0 }
 {
     if e.group == need.group && e.priority < need.priority {
@@ -114,7 +114,7 @@ fn lower_count(need: &Need, e: &Entry) -> u32
 }
 
 // How many of those that its group spares may be taken, where it is another one.
-fn spared_count(need: &Need, e: &Entry) -> u32
+fn spared_count(need: &Need, e: &Entry<'_>) -> u32
     ensures { result ≡ cond (need.now.guaranteed && not (nat_eq e.now.group need.now.group)) e.now.count 0 }
 {
     if need.guaranteed && e.group != need.group {
@@ -125,20 +125,20 @@ fn spared_count(need: &Need, e: &Entry) -> u32
 }
 
 /// What may be taken of the group that is served: the grants of lower priority.
-pub(crate) fn lower_of(entries: &[Entry], need: &Need) -> [u128; 8]
+pub(crate) fn lower_of(entries: &[Entry<'_>], need: &Need) -> [u128; 8]
     requires { length entries.now ≤ 1000000 }
     ensures is { (i : ℕ) → i < 8 → slice_index result i ≡ lower_in need.now i entries.now }
     ensures small { (i : ℕ) → i < 8 → slice_index result i ≤ length entries.now * 2 ^ 96 }
 {
     let mut sums = [0; 8];
     for e in entries {
-        sums = raised(&sums, &e.size, lower_count(need, e));
+        sums = raised(&sums, e.size, lower_count(need, e));
     }
     sums
 }
 
 /// The same with what may be taken of other groups, of that which they spare.
-pub(crate) fn with_spared(lower: &[u128; 8], spared: &[Entry], need: &Need) -> [u128; 8]
+pub(crate) fn with_spared(lower: &[u128; 8], spared: &[Entry<'_>], need: &Need) -> [u128; 8]
     requires few { length spared.now ≤ 1000000 }
     requires small { (i : ℕ) → i < 8 → slice_index lower.now i ≤ 1000000 * 2 ^ 96 }
     ensures is { (i : ℕ) → i < 8 → slice_index result i ≡ slice_index lower.now i + spared_in need.now i spared.now }
@@ -146,7 +146,7 @@ pub(crate) fn with_spared(lower: &[u128; 8], spared: &[Entry], need: &Need) -> [
 {
     let mut sums = *lower;
     for e in spared {
-        sums = raised(&sums, &e.size, spared_count(need, e));
+        sums = raised(&sums, e.size, spared_count(need, e));
     }
     sums
 }

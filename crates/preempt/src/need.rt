@@ -38,7 +38,7 @@ fn place_of(table: &GrantTable, app: AppNo) -> u32
 }
 
 // An admitted unit, with no grants.
-fn unit_of(table: &GrantTable, app: AppNo, unit: UnitNo) -> Entry
+fn unit_of<'a>(table: &'a GrantTable, app: AppNo, unit: UnitNo) -> Entry<'a>
     requires { unit.0 < unit_count (as_known table.now.jobs) app.0 }
     ensures entry { IsEntry table.now result }
     ensures pair { pair_of result ≡ (app.0, unit.0) }
@@ -49,11 +49,11 @@ fn unit_of(table: &GrantTable, app: AppNo, unit: UnitNo) -> Entry
 }
 
 /// The waiting units, in their order.
-pub(crate) fn waiting_of<P: Asking>(
+pub(crate) fn waiting_of<'a, P: Asking>(
     alloc: Global,
-    table: &GrantTable,
+    table: &'a GrantTable,
     placer: &P,
-) -> Result<Vec<Entry>, OutOfMemory>
+) -> Result<Vec<Entry<'a>>, OutOfMemory>
     requires { AllByRecursion (λ p. p.1 < unit_count (as_known table.now.jobs) p.0) (P.line placer.now) }
     ensures pairs { IfOk result (λ waiting. map pair_of waiting.items ≡ P.line placer.now) }
     ensures entries { IfOk result (λ waiting. AllByRecursion (IsEntry table.now) waiting.items) }
@@ -78,28 +78,28 @@ fn sum_of(a: &[u64; 8], b: &[u64; 8]) -> [u128; 8]
 }
 
 /// Whether the group of a unit has quota left for one more grant of it.
-pub(crate) fn is_guaranteed(table: &GrantTable, group: &GroupUse<'_>, e: &Entry) -> bool
+pub(crate) fn is_guaranteed(table: &GrantTable, group: &GroupUse<'_>, e: &Entry<'_>) -> bool
     requires entry { IsEntry table.now e.now }
     requires group { IsGroup table.now e.now.group group.now }
     ensures { is_narrow table.now.cluster (size_at (as_known table.now.jobs) e.now.app.0 e.now.unit.0) ≡ true → result ≡ is_guaranteed_in (board_of table.now) table.now.entries (spot e.now.app.0 e.now.unit.0 0) }
 {
     let resources = table.cluster().resources() as usize;
-    let allowed = sum_of(&group.used, &e.size);
+    let allowed = sum_of(group.used, e.size);
     reach(resources, group.quota, &[0; 8], &allowed)
 }
 
 /// What one more grant of a unit needs, wherever it is, and `None` exactly where it fits nowhere, since it needs
 /// a resource that the cluster does not have.
-pub(crate) fn need_of(table: &GrantTable, group: &GroupUse<'_>, e: &Entry) -> Option<Need>
+pub(crate) fn need_of(table: &GrantTable, group: &GroupUse<'_>, e: &Entry<'_>) -> Option<Need>
     requires entry { IsEntry table.now e.now }
     requires group { IsGroup table.now e.now.group group.now }
     ensures { MatchOption result (is_narrow table.now.cluster (size_at (as_known table.now.jobs) e.now.app.0 e.now.unit.0) ≡ false) (IsWanted table.now e.now.app.0 e.now.unit.0) }
 {
     let resources = table.cluster().resources() as usize;
-    if !is_narrow(resources, &e.size) {
+    if !is_narrow(resources, e.size) {
         return None;
     }
-    let allowed = sum_of(&group.used, &e.size);
+    let allowed = sum_of(group.used, e.size);
     Some(Need {
         resources,
         group: e.group,
@@ -113,26 +113,26 @@ pub(crate) fn need_of(table: &GrantTable, group: &GroupUse<'_>, e: &Entry) -> Op
 }
 
 // What it needs on a machine.
-fn on_shelf(need: &Need, e: &Entry, shelf: &Shelf<'_>) -> Need
+fn on_shelf(need: &Need, e: &Entry<'_>, shelf: &Shelf<'_, '_>) -> Need
     ensures need { (t : TableRecord) (m : ℕ) → IsEntry t e.now → IsWanted t e.now.app.0 e.now.unit.0 need.now → IsShelf t m shelf.now → t.cluster.resources ≤ 8 → IsNeed t (spot e.now.app.0 e.now.unit.0 m) result }
     ensures group { result.group ≡ need.now.group }
     ensures resources { result.resources ≡ need.now.resources }
 {
     Need {
         has: shelf.has,
-        fits: sum_of(&used_of(&shelf.has, &shelf.free), &e.size),
+        fits: sum_of(&used_of(&shelf.has, &shelf.free), e.size),
         ..*need
     }
 }
 
 /// The victims on a machine for one more grant of a unit.
-pub(crate) fn victims_for(
+pub(crate) fn victims_for<'a>(
     alloc: Global,
     need: &Need,
-    e: &Entry,
-    shelf: &Shelf<'_>,
+    e: &Entry<'_>,
+    shelf: &Shelf<'_, 'a>,
     groups: &[GroupUse<'_>],
-    scratch: &mut Scratch,
+    scratch: &mut Scratch<'a>,
 ) -> Result<Option<Vec<Victim>>, OutOfMemory>
     requires resources { need.now.resources ≤ 8 }
     requires own { need.now.group < 32 }

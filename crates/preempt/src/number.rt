@@ -54,7 +54,7 @@ pub(crate) fn needed_number(
     need: &Need,
     all: &[u128; 8],
     own: &[u128; 8],
-    e: &Entry,
+    e: &Entry<'_>,
     most: u32,
 ) -> u32
     requires resources { need.now.resources ≤ 8 }
@@ -107,7 +107,7 @@ pub(crate) fn spared_number(
 }
 
 /// How many grants of an entry may be taken.
-pub(crate) fn may_number(need: &Need, group: &GroupUse<'_>, part: &[u128; 8], e: &Entry) -> u32
+pub(crate) fn may_number(need: &Need, group: &GroupUse<'_>, part: &[u128; 8], e: &Entry<'_>) -> u32
     requires resources { need.now.resources ≤ 8 }
     requires small { (i : ℕ) → i < 8 → slice_index part.now i < 2 ^ 127 }
     ensures { result ≡ may_number need.now group.now part.now e.now }
@@ -119,7 +119,7 @@ pub(crate) fn may_number(need: &Need, group: &GroupUse<'_>, part: &[u128; 8], e:
         return 0;
     }
     if need.guaranteed {
-        return spared_number(need.resources, group, part, &e.size, e.count);
+        return spared_number(need.resources, group, part, e.size, e.count);
     }
     0
 }

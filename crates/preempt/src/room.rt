@@ -74,7 +74,7 @@ fn left_on(
     requires resources { resources ≤ 8 }
     requires all_small { (i : ℕ) → i < 8 → slice_index all.now i < 2 ^ 127 }
     requires own_small { (i : ℕ) → i < 8 → slice_index own.now i < 2 ^ 127 }
-    ensures { (i : ℕ) → i < resources → slice_index result i ≡ min ((slice_index has.now i + slice_index all.now i) - slice_index used.now i) ((slice_index group.now.limit.now i + slice_index own.now i) - slice_index group.now.used i) }
+    ensures { (i : ℕ) → i < resources → slice_index result i ≡ min ((slice_index has.now i + slice_index all.now i) - slice_index used.now i) ((slice_index group.now.limit.now i + slice_index own.now i) - slice_index group.now.used.now i) }
 {
     let mut q = [0; 8];
     for i in 0..resources {
@@ -86,7 +86,12 @@ fn left_on(
 }
 
 // What there is room for on a machine, once all that may be taken there is gone: it fits, and its group may use it.
-fn room_on(shelf: &Shelf<'_>, spared: &[Entry], need: &Need, groups: &[GroupUse<'_>]) -> Sums
+fn room_on(
+    shelf: &Shelf<'_, '_>,
+    spared: &[Entry<'_>],
+    need: &Need,
+    groups: &[GroupUse<'_>],
+) -> Sums
     requires resources { need.now.resources ≤ 8 }
     requires own { need.now.group < 32 }
     requires few { length shelf.now.entries.now ≤ 1000000 }
@@ -108,7 +113,7 @@ fn room_among(
     alloc: Global,
     table: &GrantTable,
     stock: &Stock<'_>,
-    entries: &[Entry],
+    entries: &[Entry<'_>],
     need: &Need,
     machine: MachineNo,
     parts: &mut Parts,

@@ -3,12 +3,12 @@
 
 ghost use Rattle.std.specs.Prelude.{◌≡◌, ℕ, ◌+◌, ◌<◌, ◌≤◌, true, false, IfOk, IfSome, OnOk, length, map};
 ghost use Rattle.std.proofs.Common.{get_or};
-ghost use Rattle.std.specs.List.{AllByRecursion};
+ghost use Rattle.std.specs.List.{AllByRecursion, flat_map};
 ghost use Rattle.std.specs.Option.{option_map};
 ghost use Rattle.fuxi_terms.specs.Jobs.{unit_count};
 ghost use Rattle.fuxi_terms.specs.Lists.{below_each};
 ghost use Rattle.written_roles.specs.Placing.{Board};
-ghost use Rattle.written_roles.specs.Preemption.{plan_in};
+ghost use Rattle.written_roles.specs.Preemption.{plan_in, falling_priorities};
 ghost use Rattle.grant_table.specs.GrantTables.{as_known};
 ghost use Rattle.preempt.specs.Given.{IsEntry, pair_of};
 ghost use Rattle.preempt.specs.GroupSums.{no_sums};
@@ -34,7 +34,7 @@ use std::alloc::Global;
 use std::sync::ledger::Ledger;
 
 // Whether a unit is tried on a machine: it may be granted there, and it holds fewer there than its greatest number.
-fn accepts<P: Asking>(table: &GrantTable, placer: &P, e: &Entry, machine: MachineNo) -> bool
+fn accepts<P: Asking>(table: &GrantTable, placer: &P, e: &Entry<'_>, machine: MachineNo) -> bool
     requires entry { IsEntry table.now e.now }
     requires machine { machine.0 < length table.now.cluster.machines }
     ensures { result ≡ accepts_at table.now (P.usable placer.now) e.now.app.0 e.now.unit.0 machine.0 }
@@ -46,15 +46,15 @@ fn accepts<P: Asking>(table: &GrantTable, placer: &P, e: &Entry, machine: Machin
 }
 
 // The plan of a unit on a machine, where it has victims there.
-fn plan_on<P: Asking>(
+fn plan_on<'a, P: Asking>(
     alloc: Global,
     table: &GrantTable,
     placer: &P,
-    stock: &Stock<'_>,
-    e: &Entry,
+    stock: &Stock<'a>,
+    e: &Entry<'_>,
     need: &Need,
     machine: MachineNo,
-    scratch: &mut Scratch,
+    scratch: &mut Scratch<'a>,
 ) -> Result<Option<Plan>, OutOfMemory>
     requires entry { IsEntry table.now e.now }
     requires machine { machine.0 < length table.now.cluster.machines }
@@ -83,14 +83,14 @@ fn plan_on<P: Asking>(
 }
 
 // The plan of the first machine on which a unit has victims. One where nothing may be taken is passed.
-fn first_machine<P: Asking>(
+fn first_machine<'a, P: Asking>(
     alloc: Global,
     table: &GrantTable,
     placer: &P,
-    stock: &Stock<'_>,
-    e: &Entry,
+    stock: &Stock<'a>,
+    e: &Entry<'_>,
     need: &Need,
-    scratch: &mut Scratch,
+    scratch: &mut Scratch<'a>,
 ) -> Result<Option<Plan>, OutOfMemory>
     requires entry { IsEntry table.now e.now }
     requires stock { IsStock table.now stock.now }
@@ -123,15 +123,15 @@ fn is_beyond(rooms: &[Sums], need: &Need, size: &[u64; 8], machine: u32) -> bool
 
 // The plan of the first machine on which a unit has victims, where the rooms are known. One without room for it is
 // passed.
-fn first_within<P: Asking>(
+fn first_within<'a, P: Asking>(
     alloc: Global,
     table: &GrantTable,
     placer: &P,
-    stock: &Stock<'_>,
+    stock: &Stock<'a>,
     rooms: &[Sums],
-    e: &Entry,
+    e: &Entry<'_>,
     need: &Need,
-    scratch: &mut Scratch,
+    scratch: &mut Scratch<'a>,
 ) -> Result<Option<Plan>, OutOfMemory>
     requires entry { IsEntry table.now e.now }
     requires stock { IsStock table.now stock.now }
@@ -141,7 +141,7 @@ fn first_within<P: Asking>(
 {
     let cluster = table.cluster();
     for number in 0..cluster.machines() {
-        if is_beyond(rooms, need, &e.size, number) {
+        if is_beyond(rooms, need, e.size, number) {
             continue;
         }
         let machine = MachineNo(number);
@@ -154,14 +154,14 @@ fn first_within<P: Asking>(
 }
 
 // The plan of a unit for whose kind the rooms are known. No machine is looked at where none has room for it.
-fn plan_within<P: Asking>(
+fn plan_within<'a, P: Asking>(
     alloc: Global,
     table: &GrantTable,
     placer: &P,
-    stock: &Stock<'_>,
+    stock: &Stock<'a>,
     rooms: &Rooms,
-    e: &Entry,
-    scratch: &mut Scratch,
+    e: &Entry<'_>,
+    scratch: &mut Scratch<'a>,
 ) -> Result<Option<Plan>, OutOfMemory>
     requires entry { IsEntry table.now e.now }
     requires stock { IsStock table.now stock.now }
@@ -170,7 +170,7 @@ fn plan_within<P: Asking>(
     ensures { IfOk result (IsFound table.now (P.usable placer.now) (pairs_on table.now (P.usable placer.now) (pair_of e.now))) }
 {
     let resources = table.cluster().resources() as usize;
-    if !is_within(resources, &e.size, &rooms.widest) {
+    if !is_within(resources, e.size, &rooms.widest) {
         return Ok(None);
     }
     match need_of(table, &stock.groups[e.group], e) {
@@ -180,15 +180,15 @@ fn plan_within<P: Asking>(
 }
 
 // The plan of the second unit of a kind. The rooms are made for it, and kept for those behind it.
-fn plan_with_rooms<P: Asking>(
+fn plan_with_rooms<'a, P: Asking>(
     alloc: Global,
     table: &GrantTable,
     placer: &P,
-    stock: &Stock<'_>,
-    e: &Entry,
+    stock: &Stock<'a>,
+    e: &Entry<'_>,
     need: &Need,
     kinds: &mut Vec<Rooms>,
-    scratch: &mut Scratch,
+    scratch: &mut Scratch<'a>,
 ) -> Result<Option<Plan>, OutOfMemory>
     requires entry { IsEntry table.now e.now }
     requires stock { IsStock table.now stock.now }
@@ -205,15 +205,15 @@ fn plan_with_rooms<P: Asking>(
 
 // The plan of a unit that waits. The rooms for units of its kind are made once another one of its group was tried
 // in vain.
-fn unit_plan<P: Asking>(
+fn unit_plan<'a, P: Asking>(
     alloc: Global,
     table: &GrantTable,
     placer: &P,
-    stock: &Stock<'_>,
-    e: &Entry,
+    stock: &Stock<'a>,
+    e: &Entry<'_>,
     tried: &mut [bool; 32],
     kinds: &mut Vec<Rooms>,
-    scratch: &mut Scratch,
+    scratch: &mut Scratch<'a>,
 ) -> Result<Option<Plan>, OutOfMemory>
     requires entry { IsEntry table.now e.now }
     requires stock { IsStock table.now stock.now }
@@ -239,14 +239,14 @@ fn unit_plan<P: Asking>(
 }
 
 // The plan of the first unit of a priority that has victims.
-fn first_unit<P: Asking>(
+fn first_unit<'a, P: Asking>(
     alloc: Global,
     table: &GrantTable,
     placer: &P,
-    stock: &Stock<'_>,
-    waiting: &[Entry],
+    stock: &Stock<'a>,
+    waiting: &[Entry<'_>],
     priority: u8,
-    scratch: &mut Scratch,
+    scratch: &mut Scratch<'a>,
 ) -> Result<Option<Plan>, OutOfMemory>
     requires entries { AllByRecursion (IsEntry table.now) waiting.now }
     requires stock { IsStock table.now stock.now }
@@ -261,6 +261,36 @@ fn first_unit<P: Asking>(
         match unit_plan(
             alloc, table, placer, stock, e, &mut tried, &mut kinds, scratch,
         )? {
+            Some(plan) => return Ok(Some(plan)),
+            None => {}
+        }
+    }
+    Ok(None)
+}
+
+// The plan of the first unit that has victims, from the greatest priority down.
+fn first_of_all<P: Asking>(
+    alloc: Global,
+    table: &GrantTable,
+    placer: &P,
+    stock: &Stock<'_>,
+    waiting: &[Entry<'_>],
+) -> Result<Option<Plan>, OutOfMemory>
+    requires entries { AllByRecursion (IsEntry table.now) waiting.now }
+    requires stock { IsStock table.now stock.now }
+    ensures { IfOk result (IsFound table.now (P.usable placer.now) (flat_map (λ n. pairs_at table.now (P.usable placer.now) n (map pair_of waiting.now)) falling_priorities)) }
+{
+    let mut scratch = Scratch {
+        set: Vec::with_capacity(alloc, 8)?,
+        parts: Parts::new(alloc)?,
+    };
+    let present = priorities_of(waiting);
+    for late in 0..10_u8 {
+        let priority = 9 - late;
+        if !present[priority as usize] {
+            continue;
+        }
+        match first_unit(alloc, table, placer, stock, waiting, priority, &mut scratch)? {
             Some(plan) => return Ok(Some(plan)),
             None => {}
         }
@@ -309,20 +339,5 @@ pub fn find<P: Asking, L: Ledger>(
         counts: &counts,
         free: &free,
     };
-    let mut scratch = Scratch {
-        set: Vec::with_capacity(alloc, 8)?,
-        parts: Parts::new(alloc)?,
-    };
-    let present = priorities_of(&line);
-    for late in 0..10_u8 {
-        let priority = 9 - late;
-        if !present[priority as usize] {
-            continue;
-        }
-        match first_unit(alloc, table, placer, &stock, &line, priority, &mut scratch)? {
-            Some(plan) => return Ok(Some(plan)),
-            None => {}
-        }
-    }
-    Ok(None)
+    Ok(first_of_all(alloc, table, placer, &stock, &line)?)
 }

@@ -27,9 +27,9 @@ pub(crate) enum Loose {
 
 /// A machine.
 #[derive(Clone, Copy)]
-pub(crate) struct Shelf<'a> {
+pub(crate) struct Shelf<'s, 'a> {
     /// Its grants, in the order of the walk.
-    pub(crate) entries: &'a [Entry],
+    pub(crate) entries: &'s [Entry<'a>],
     /// What the machine has, and what of it is free.
     pub(crate) has: [u64; 8],
     pub(crate) free: [u64; 8],
@@ -85,7 +85,7 @@ pub(crate) fn spares(resources: usize, group: &GroupUse<'_>, size: &[u64; 8]) ->
 }
 
 /// By group the least priority of its entries, or 255.
-pub(crate) fn lowest_of(entries: &[Entry]) -> [u8; 32]
+pub(crate) fn lowest_of(entries: &[Entry<'_>]) -> [u8; 32]
     requires { All (λ e. e.group < 32) entries.now }
     ensures { AllByRecursion (IsLow result) entries.now }
 {
@@ -97,7 +97,7 @@ pub(crate) fn lowest_of(entries: &[Entry]) -> [u8; 32]
 }
 
 /// The groups that spare one of their entries.
-pub(crate) fn loose_of(entries: &[Entry], resources: usize, groups: &[GroupUse<'_>]) -> Loose
+pub(crate) fn loose_of(entries: &[Entry<'_>], resources: usize, groups: &[GroupUse<'_>]) -> Loose
     requires small { All (λ e. e.group < 32) entries.now }
     requires resources { resources ≤ 8 }
     requires long { length groups.now ≡ 32 }
@@ -105,7 +105,7 @@ pub(crate) fn loose_of(entries: &[Entry], resources: usize, groups: &[GroupUse<'
 {
     let mut loose = Loose::Nobody;
     for e in entries {
-        if spares(resources, &groups[e.group], &e.size) {
+        if spares(resources, &groups[e.group], e.size) {
             loose = loosened(loose, e.group);
         }
     }
@@ -114,14 +114,14 @@ pub(crate) fn loose_of(entries: &[Entry], resources: usize, groups: &[GroupUse<'
 
 // Of each entry as many grants as its group spares beside those before it, whoever they are for. One of which it
 // spares none is left out.
-fn spared_of(
+fn spared_of<'a>(
     alloc: Global,
-    entries: &[Entry],
+    entries: &[Entry<'a>],
     loose: Loose,
     resources: usize,
     groups: &[GroupUse<'_>],
     parts: &mut Parts,
-) -> Result<Vec<Entry>, OutOfMemory>
+) -> Result<Vec<Entry<'a>>, OutOfMemory>
     requires few { length entries.now ≤ 1000000 }
     requires small { All (λ e. e.group < 32) entries.now }
     requires resources { resources ≤ 8 }
@@ -138,24 +138,24 @@ fn spared_of(
     parts.restart();
     for e in entries {
         let part = parts.of(e.group);
-        let count = spared_number(resources, &groups[e.group], &part, &e.size, e.count);
+        let count = spared_number(resources, &groups[e.group], &part, e.size, e.count);
         if count == 0 {
             continue;
         }
         spared.push(recounted(e, count))?;
-        parts.put(e.group, raised(&part, &e.size, count))?;
+        parts.put(e.group, raised(&part, e.size, count))?;
     }
     Ok(spared)
 }
 
 /// The same for a machine, of which these are the entries.
-pub(crate) fn spared_on(
+pub(crate) fn spared_on<'a>(
     alloc: Global,
-    entries: &[Entry],
+    entries: &[Entry<'a>],
     resources: usize,
     groups: &[GroupUse<'_>],
     parts: &mut Parts,
-) -> Result<Vec<Entry>, OutOfMemory>
+) -> Result<Vec<Entry<'a>>, OutOfMemory>
     requires few { length entries.now ≤ 1000000 }
     requires small { All (λ e. e.group < 32) entries.now }
     requires resources { resources ≤ 8 }
@@ -174,7 +174,7 @@ fn group_use<'a>(table: &'a GrantTable, nothing: &'a [u64; 8], number: GroupNo) 
     ensures { IsGroup table.now number.0 result }
 {
     let cluster = table.cluster();
-    let used = table.used_by(number).q;
+    let used = &table.used_by(number).q;
     if number.0 < cluster.groups() {
         let group = cluster.group(number);
         GroupUse {
@@ -219,12 +219,12 @@ pub(crate) fn used_of(has: &[u64; 8], free: &[u64; 8]) -> [u64; 8]
 }
 
 /// A machine, of which these are the entries.
-pub(crate) fn shelf_of<'a>(
+pub(crate) fn shelf_of<'s, 'a>(
     table: &GrantTable,
     stock: &Stock<'_>,
-    entries: &'a [Entry],
+    entries: &'s [Entry<'a>],
     machine: MachineNo,
-) -> Shelf<'a>
+) -> Shelf<'s, 'a>
     requires machine { machine.0 < length table.now.cluster.machines }
     requires stock { IsStock table.now stock.now }
     requires entries { IsWalked table.now machine.0 entries.now }

@@ -19,7 +19,7 @@ pub(crate) struct Stock<'a> {
     /// What each of the 32 groups is promised, may use and uses.
     pub(crate) groups: &'a [GroupUse<'a>],
     /// The units that have grants, in the order of the walk.
-    pub(crate) holders: &'a [Entry],
+    pub(crate) holders: &'a [Entry<'a>],
     /// What each of them has by machine.
     pub(crate) counts: &'a [&'a [u32]],
     /// What is free, by machine.
@@ -44,7 +44,7 @@ pub(crate) fn free_of<L: Ledger>(
 }
 
 // Whether a unit may take any grant of another one.
-fn may_take(need: &Need, groups: &[GroupUse<'_>], e: &Entry) -> bool
+fn may_take(need: &Need, groups: &[GroupUse<'_>], e: &Entry<'_>) -> bool
     requires resources { need.now.resources ≤ 8 }
     requires small { e.now.group < 32 }
     requires long { length groups.now ≡ 32 }
@@ -54,7 +54,7 @@ fn may_take(need: &Need, groups: &[GroupUse<'_>], e: &Entry) -> bool
         return e.priority < need.priority;
     }
     if need.guaranteed {
-        return spares(need.resources, &groups[e.group], &e.size);
+        return spares(need.resources, &groups[e.group], e.size);
     }
     false
 }
@@ -97,12 +97,12 @@ pub(crate) fn has_any_on(rows: &[&[u32]], machine: u32) -> bool
 }
 
 /// The entries of a machine, in the order of the walk.
-pub(crate) fn entries_on(
+pub(crate) fn entries_on<'a>(
     alloc: Global,
     table: &GrantTable,
-    stock: &Stock<'_>,
+    stock: &Stock<'a>,
     machine: MachineNo,
-) -> Result<Vec<Entry>, OutOfMemory>
+) -> Result<Vec<Entry<'a>>, OutOfMemory>
     requires stock { IsStock table.now stock.now }
     requires machine { machine.0 < length table.now.cluster.machines }
     ensures { IfOk result (λ entries. IsWalked table.now machine.0 entries.items) }

@@ -19,9 +19,9 @@ use std::alloc::Global;
 
 /// What is written over for one machine after another.
 #[derive(Drop)]
-pub(crate) struct Scratch {
+pub(crate) struct Scratch<'a> {
     /// What is taken.
-    pub(crate) set: Vec<Entry>,
+    pub(crate) set: Vec<Entry<'a>>,
     pub(crate) parts: Parts,
 }
 
@@ -33,9 +33,9 @@ struct Taken {
 }
 
 // Of each entry as many grants as the walk takes, written into a list that is cleared before, and what they take.
-fn take_all(
-    scratch: &mut Scratch,
-    entries: &[Entry],
+fn take_all<'a>(
+    scratch: &mut Scratch<'a>,
+    entries: &[Entry<'a>],
     need: &Need,
     groups: &[GroupUse<'_>],
 ) -> Result<Taken, OutOfMemory>
@@ -61,8 +61,8 @@ fn take_all(
         if count == 0 {
             continue;
         }
-        all = raised(&all, &e.size, count);
-        parts.put(e.group, raised(&part, &e.size, count))?;
+        all = raised(&all, e.size, count);
+        parts.put(e.group, raised(&part, e.size, count))?;
     }
     Ok(Taken {
         all,
@@ -71,12 +71,12 @@ fn take_all(
 }
 
 // Of each entry that was taken as many grants as are needed.
-fn keep_needed(
+fn keep_needed<'a>(
     alloc: Global,
-    set: &[Entry],
+    set: &[Entry<'a>],
     taken: &Taken,
     need: &Need,
-) -> Result<Vec<Entry>, OutOfMemory>
+) -> Result<Vec<Entry<'a>>, OutOfMemory>
     requires resources { need.now.resources ≤ 8 }
     requires few { length set.now ≤ 1000000 }
     requires sums { AreSumsOf need.now.group taken.now set.now }
@@ -86,18 +86,18 @@ fn keep_needed(
     let mut all = taken.all;
     let mut own = taken.own;
     for e in set {
-        let rest = lowered(&all, &e.size, e.count);
-        let own_rest = lowered(&own, &e.size, count_if(e.group == need.group, e.count));
+        let rest = lowered(&all, e.size, e.count);
+        let own_rest = lowered(&own, e.size, count_if(e.group == need.group, e.count));
         let count = needed_number(need, &rest, &own_rest, e, e.count);
         kept.push(recounted(e, count))?;
-        all = raised(&rest, &e.size, count);
-        own = raised(&own_rest, &e.size, count_if(e.group == need.group, count));
+        all = raised(&rest, e.size, count);
+        own = raised(&own_rest, e.size, count_if(e.group == need.group, count));
     }
     Ok(kept)
 }
 
 // The victims that entries stand for: those that have grants.
-fn victims_of(alloc: Global, entries: &[Entry]) -> Result<Vec<Victim>, OutOfMemory>
+fn victims_of(alloc: Global, entries: &[Entry<'_>]) -> Result<Vec<Victim>, OutOfMemory>
     ensures { IfOk result (λ victims. victims.items ≡ map victim_of (filter has_grants entries.now)) }
 {
     let mut victims = Vec::with_capacity(alloc, entries.len())?;
@@ -114,7 +114,7 @@ fn victims_of(alloc: Global, entries: &[Entry]) -> Result<Vec<Victim>, OutOfMemo
 }
 
 // Whether any entry has grants.
-fn has_any(entries: &[Entry]) -> bool
+fn has_any(entries: &[Entry<'_>]) -> bool
     ensures { result ≡ list_any has_grants entries.now }
 {
     entries.iter().any(|e| e.count > 0)
@@ -123,12 +123,12 @@ fn has_any(entries: &[Entry]) -> bool
 /// The victims on a machine for one more grant of a unit, and `None` exactly where the walk of single grants
 /// finds none. The list is a scratch one: it is written over, so that a machine without victims costs no memory
 /// once it has room.
-pub(crate) fn victims_on(
+pub(crate) fn victims_on<'a>(
     alloc: Global,
-    entries: &[Entry],
+    entries: &[Entry<'a>],
     need: &Need,
     groups: &[GroupUse<'_>],
-    scratch: &mut Scratch,
+    scratch: &mut Scratch<'a>,
 ) -> Result<Option<Vec<Victim>>, OutOfMemory>
     requires resources { need.now.resources ≤ 8 }
     requires own { need.now.group < 32 }

@@ -16,7 +16,7 @@ use schedule_unit::{Job, UnitNo};
 use std::alloc::Global;
 
 /// A unit of an admitted job, with no grants.
-pub(crate) fn entry_of(job: &Job, unit: UnitNo) -> Entry
+pub(crate) fn entry_of<'a>(job: &'a Job, unit: UnitNo) -> Entry<'a>
     requires { unit.0 < length job.now.units }
     ensures pair { pair_of result ≡ (job.now.number, unit.0) }
     ensures entry { (t : TableRecord) (i : ℕ) → IsSound t → slice_get t.jobs i ≡ Some job.now → IsEntry t result }
@@ -28,12 +28,16 @@ pub(crate) fn entry_of(job: &Job, unit: UnitNo) -> Entry
         group: job.group().0 as usize,
         priority: asked.priority,
         count: 0,
-        size: asked.size.q,
+        size: &asked.size.q,
     }
 }
 
 // Of the units of the job at a place those that have grants, wherever it is.
-fn push_holders(holders: &mut Vec<Entry>, table: &GrantTable, index: u32) -> Result<(), OutOfMemory>
+fn push_holders<'a>(
+    holders: &mut Vec<Entry<'a>>,
+    table: &'a GrantTable,
+    index: u32,
+) -> Result<(), OutOfMemory>
     requires { index < length table.now.jobs }
     ensures pairs { OnOk result ((j : JobRecord) → slice_get table.now.jobs index ≡ Some j → map pair_of holders.new.items ≡ map pair_of holders.old.items ++ filter (holds_some table.now.entries) (units_in j (length j.units))) }
     ensures entries { OnOk result (AllByRecursion (IsEntry table.now) holders.old.items → AllByRecursion (IsEntry table.now) holders.new.items) }
@@ -51,7 +55,10 @@ fn push_holders(holders: &mut Vec<Entry>, table: &GrantTable, index: u32) -> Res
 }
 
 /// The units that have grants, in the order of job and unit.
-pub(crate) fn holders_of(alloc: Global, table: &GrantTable) -> Result<Vec<Entry>, OutOfMemory>
+pub(crate) fn holders_of<'a>(
+    alloc: Global,
+    table: &'a GrantTable,
+) -> Result<Vec<Entry<'a>>, OutOfMemory>
     ensures each { IfOk result (λ holders. AllByRecursion (IsEntry table.now) holders.items) }
     ensures holders { IfOk result (λ holders. AreHolders table.now (entries_by_priority holders.items 10)) }
 {
@@ -65,7 +72,11 @@ pub(crate) fn holders_of(alloc: Global, table: &GrantTable) -> Result<Vec<Entry>
 }
 
 // Those of one priority, from the last to the first.
-fn push_priority(sorted: &mut Vec<Entry>, units: &[Entry], priority: u8) -> Result<(), OutOfMemory>
+fn push_priority<'a>(
+    sorted: &mut Vec<Entry<'a>>,
+    units: &[Entry<'a>],
+    priority: u8,
+) -> Result<(), OutOfMemory>
     ensures { OnOk result (sorted.new.items ≡ sorted.old.items ++ backward (of_priority priority) units.now) }
 {
     for back in 0..units.len() {
@@ -78,7 +89,7 @@ fn push_priority(sorted: &mut Vec<Entry>, units: &[Entry], priority: u8) -> Resu
 }
 
 /// Which priorities any of these units has.
-pub(crate) fn priorities_of(units: &[Entry]) -> [bool; 256]
+pub(crate) fn priorities_of(units: &[Entry<'_>]) -> [bool; 256]
     ensures { AllByRecursion (HasItsPriority result) units.now }
 {
     let mut present = [false; 256];
@@ -90,7 +101,10 @@ pub(crate) fn priorities_of(units: &[Entry]) -> [bool; 256]
 }
 
 /// In the order of the walk, where they stand in that of job and unit.
-pub(crate) fn by_priority(alloc: Global, units: &[Entry]) -> Result<Vec<Entry>, OutOfMemory>
+pub(crate) fn by_priority<'a>(
+    alloc: Global,
+    units: &[Entry<'a>],
+) -> Result<Vec<Entry<'a>>, OutOfMemory>
     ensures { IfOk result (λ sorted. sorted.items ≡ entries_by_priority units.now 10) }
 {
     let mut sorted = Vec::with_capacity(alloc, units.len())?;
@@ -108,7 +122,7 @@ pub(crate) fn by_priority(alloc: Global, units: &[Entry]) -> Result<Vec<Entry>, 
 pub(crate) fn counts_of<'a>(
     alloc: Global,
     table: &'a GrantTable,
-    units: &[Entry],
+    units: &[Entry<'_>],
 ) -> Result<Vec<&'a [u32]>, OutOfMemory>
     requires { AllByRecursion (IsEntry table.now) units.now }
     ensures { IfOk result (λ counts. AreRead table.now units.now counts.items) }
@@ -121,9 +135,9 @@ pub(crate) fn counts_of<'a>(
 }
 
 /// With those of a machine behind what is listed.
-pub(crate) fn list_machine(
-    entries: &mut Vec<Entry>,
-    units: &[Entry],
+pub(crate) fn list_machine<'a>(
+    entries: &mut Vec<Entry<'a>>,
+    units: &[Entry<'a>],
     counts: &[&[u32]],
     machine: u32,
 ) -> Result<(), OutOfMemory>

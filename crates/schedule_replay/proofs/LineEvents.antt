@@ -38,9 +38,6 @@ not_below n l is = by (nat_lt l n) refl is
         no t = grind (arith, t)
     by false e t = grind (arith, nat_tests, e)
 
-two : (a b : Bool) → a ≡ true → b ≡ true → (a && b) ≡ true
-two a b = and_true a b
-
 three : (a b c : Bool) → a ≡ true → b ≡ true → c ≡ true → (a && (b && c)) ≡ true
 three a b c x y z = and_true a (b && c) x (and_true b c y z)
 
@@ -63,16 +60,16 @@ writes_as x is = cc
 numbered : (e : Event) → AreWithin 0 (shape_of (saying_of e).head).places (saying_of e).numbers → MayStop e → is_from_line (event_as e) ≡ true
 numbered (line.Master e) w s = counted e w.1
 numbered (line.Stop e) w s = counted e w.1
-numbered (line.Agent m b) w s = two _ _ w.1 (counted b w.2.1)
-numbered (line.App a b) w s = two _ _ w.1 (counted b w.2.1)
+numbered (line.Agent m b) w s = and_true _ _ w.1 (counted b w.2.1)
+numbered (line.App a b) w s = and_true _ _ w.1 (counted b w.2.1)
 numbered (line.Submit e a g asks) w s = three _ _ _ (counted e w.1) w.2.1 w.2.2.1
-numbered (line.Finish e a) w s = two _ _ (counted e w.1) w.2.1
-numbered (line.Ban e m) w s = two _ _ (counted e w.1) w.2.1
-numbered (line.Unban e m) w s = two _ _ (counted e w.1) w.2.1
+numbered (line.Finish e a) w s = and_true _ _ (counted e w.1) w.2.1
+numbered (line.Ban e m) w s = and_true _ _ (counted e w.1) w.2.1
+numbered (line.Unban e m) w s = and_true _ _ (counted e w.1) w.2.1
 numbered (line.Begin e) w s = counted e w.1
 numbered (line.Preempt e) w s = counted e w.1
 numbered (line.Judge e least percent) w s = three _ _ _ (counted e w.1) w.2.1 w.2.2.1
-numbered (line.Want a u n) w s = two _ _ w.1 w.2.1
+numbered (line.Want a u n) w s = and_true _ _ w.1 w.2.1
 numbered (line.Near a u m n) w s = three _ _ _ w.1 w.2.1 w.2.2.1
 numbered (line.Rack a u r n) w s = three _ _ _ w.1 w.2.1 w.2.2.1
 numbered (line.Avoid a u m on) w s = four _ _ _ _ w.1 w.2.1 w.2.2.1 w.2.2.2.1
@@ -84,7 +81,7 @@ numbered (line.ResyncMaster e) w s = counted e w.1
 numbered (line.ResyncAgent m) w s = w.1
 numbered (line.ResyncApp a) w s = w.1
 numbered (line.Deliver k) w s = counted k w.1
-numbered (line.DeliverRange k l) w s = two _ _ (counted k w.1) w.2.1
+numbered (line.DeliverRange k l) w s = and_true _ _ (counted k w.1) w.2.1
 numbered (line.Dump k) w s = counted k w.1
 numbered line.Show w s = refl
 numbered (line.Halt' calls all p x) w s = three _ _ _ s.0 (writes_as x s.1) (numbered x w (stops_none x s.1))

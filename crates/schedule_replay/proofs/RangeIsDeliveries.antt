@@ -2,7 +2,7 @@
 use Rattle.std.proofs.Common.{◌≡◌, ℕ, zero, suc, ◌+◌, ◌-◌, ◌<◌, ◌≤◌, true, false, nat_lt, List, [], ◌∷◌, ◌++◌, length, slice_get, Option, Some, None, refl, sym, ◌∙◌, ap, subst, arith}
 use Rattle.std.specs.Option.{option_map}
 use Rattle.std.proofs.lemmas.Bool.Decides.{nat_tests}
-use Rattle.std.proofs.lemmas.Option.{slice_get-map, same_Some}
+use Rattle.std.proofs.lemmas.Option.{slice_get-map, same_Some, slice_get_within}
 use Rattle.party_ledgers.specs.declared.packets.Packet.{Packet as PacketHere}
 use Rattle.core_side.specs.Parcels.{parcel_is, IsSent}
 use Rattle.written_net.specs.Net.{Net, Packet}
@@ -85,11 +85,6 @@ kept_as w p i bytes k (Some packet) at is = record { packet = packet; framed = s
 kept_in : (w : World) (p : Stored) (i : ℕ) (bytes : List ℕ) → KeepsPackets w p → slice_get p.frames i ≡ Some bytes → IsKept w i bytes
 kept_in w p i bytes k at = kept_as w p i bytes k (slice_get k.packets i) refl (sym at ∙ ap (λ fs. slice_get fs i) k.kept.stored ∙ slice_get-map frame k.packets i)
 
-below : {A : Type 0} (xs : List A) (i : ℕ) (x : A) → slice_get xs i ≡ Some x → i < length xs
-below [] i x at = let no : ⊥ = cc in absurd no
-below (y ∷ ys) zero x at = omega arith
-below (y ∷ ys) (suc i) x at = let le = below ys i x at in omega (arith, le)
-
 -- what is written of a frame, for whichever packet it is
 abbrev pub WritesFrame : ℕ → List ℕ → List ℕ → List ℕ → Type 0
 WritesFrame number bytes before after = (packet : PacketHere) (net : Net Ledger) (x : Packet) → IsSent packet → bytes ≡ frame packet → parcel_is packet ≡ parcel_of net x → after ≡ before ++ lines_text (Frame number x (body_of net x.kind x) ∷ [])
@@ -108,7 +103,7 @@ dumps old number bytes before after first at writes = record {
   does = λ w is s.
       let k = kept_in w old.pool (number - 1) bytes s.packets at in
       let f = k.found in
-      let there = below w.net.packets (number - 1) f.written f.there in
+      let there = slice_get_within w.net.packets (number - 1) f.written f.there in
       let few : nat_lt (length w.net.packets) number ≡ false = grind (arith, nat_tests, there, first) in
       let same : dump w number ≡ frame_step w number (Some f.written) =
       first_passes w (nat_lt (length w.net.packets) number) (NoPacket (length w.net.packets)) [] (λ v. frame_step v number (packet_of v number)) few ∙ ap (frame_step w number) f.there in

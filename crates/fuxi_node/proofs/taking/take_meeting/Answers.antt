@@ -10,8 +10,9 @@ use Rattle.fuxi_node.specs.NodeProgress.{TakesLine}
 use Rattle.node_door.specs.DoorsLemmas.{same_told}
 use Rattle.fuxi_node.proofs.DiskKept.{fits_first, known_same}
 use Rattle.fuxi_node.proofs.NodeEndsLemmas.{not_bad}
-use Rattle.fuxi_node.proofs.NodeProgressLemmas.{same_bool, other_bool, quiet_line, said_err, other_round}
+use Rattle.fuxi_node.proofs.NodeProgressLemmas.{other_bool, quiet_line, said_err, other_round}
 use Rattle.fuxi_node.proofs.taking.take_meeting.Goals as goal
+use Rattle.fuxi_terms.proofs.Booleans.{same_bool}
 
 pub returns-then-accepts-serves-clause-takes : goal.returns-then-accepts-serves-clause-takes
 returns-then-accepts-serves-clause-takes g c n number size t s =

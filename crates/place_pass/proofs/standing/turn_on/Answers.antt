@@ -1,5 +1,6 @@
 use Rattle.std.proofs.Common.{sym, ◌∙◌}
-use Rattle.place_pass.proofs.PlacerTreesLemmas.{same_bool, stood_so}
+use Rattle.place_pass.proofs.PlacerTreesLemmas.{stood_so}
+use Rattle.fuxi_terms.proofs.Booleans.{same_bool}
 use Rattle.place_pass.proofs.standing.turn_on.Goals as goal
 
 pub returns-then-stands_on-unmet : goal.returns-then-stands_on-unmet

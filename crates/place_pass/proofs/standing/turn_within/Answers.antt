@@ -1,6 +1,7 @@
 use Rattle.std.proofs.Common.{sym, ◌∙◌}
 use Rattle.locality_tree.specs.Trees.{rack_place}
-use Rattle.place_pass.proofs.PlacerTreesLemmas.{same_bool, stood_so}
+use Rattle.place_pass.proofs.PlacerTreesLemmas.{stood_so}
+use Rattle.fuxi_terms.proofs.Booleans.{same_bool}
 use Rattle.place_pass.proofs.standing.turn_within.Goals as goal
 
 pub returns-then-stands_within-unmet : goal.returns-then-stands_within-unmet

@@ -4,7 +4,7 @@ use Rattle.std.proofs.lemmas.Bool.{cases_lt}
 use Rattle.std.proofs.lemmas.Bool.Decides.{nat_tests}
 use Rattle.fuxi_terms.specs.Keys.{Pair}
 use Rattle.fuxi_terms.proofs.Lists.{all_at}
-use Rattle.fuxi_terms.proofs.Booleans.{both_false, both_true, number_is}
+use Rattle.fuxi_terms.proofs.Booleans.{both_false, both_true, number_is, not_false}
 use Rattle.written_roles.specs.Masters.{out_of}
 use Rattle.written_roles.specs.Placing.{has_pair}
 use Rattle.place_pass.specs.Bounds.{IsRising, turn_at}
@@ -58,13 +58,9 @@ loop-number-preserved-then-outstanding-gt0 c =
       holds = c.loop-number.invariant.holds;
       none = λ e.
           let b = both_false c.loop-number.begins (not c.has-waits.result) e in
-          one_further old w a n (c.loop-number.invariant.none b.0) (λ _. stood (λ p. w p || not (nat_eq p.0 a && nat_lt p.1 n)) line old c.loop-number.invariant.pairs (a, n) (sym c.has-waits.ensures ∙ turned c.has-waits.result b.1));
+          one_further old w a n (c.loop-number.invariant.none b.0) (λ _. stood (λ p. w p || not (nat_eq p.0 a && nat_lt p.1 n)) line old c.loop-number.invariant.pairs (a, n) (sym c.has-waits.ensures ∙ not_false c.has-waits.result b.1));
       stands = c.loop-number.invariant.stands;
     }
-  where
-    turned : (t : Bool) → not t ≡ false → t ≡ true
-    turned true e = refl
-    turned false e = cc
 
 -- with nothing out it may not be of the line
 pub loop-number-preserved-then-not-waits : goal.loop-number-preserved-then-not-waits

@@ -7,8 +7,8 @@ use Rattle.fuxi_terms.specs.Counts.{count}
 use Rattle.fuxi_terms.specs.TallyKeys.{rack_key}
 use Rattle.place_pass.specs.Cells.{racks_at}
 use Rattle.place_pass.proofs.Places.{counted_at, counted_long}
-use Rattle.place_pass.proofs.PlainLemmas.{either_zero}
 use Rattle.place_pass.proofs.DemandWalksLemmas.{later_past}
+use Rattle.fuxi_terms.proofs.Booleans.{zero_either}
 use Rattle.place_pass.proofs.wishes.read_racks.Goals as goal
 
 pub next_asked-rack-requires-clause-past : goal.next_asked-rack-requires-clause-past
@@ -38,7 +38,7 @@ loop-next-preserved c =
         | inl l ↦ other k (omega (arith, l, least)) ∙ clear.before k l ∙ i.done k l
         | inr ge ↦ elim (cases_eq k m) as (λ _. get_or b k 0 ≡ f k) [
           | inl q ↦ subst (λ j. get_or b j 0 ≡ f j) (sym q) here
-          | inr d ↦ other k d ∙ clear.zero k ge (omega (arith, lt, d)) ∙ sym (ap (λ z. cond (has_rack c.args.cluster.now k) z 0) (x.between k ge (omega (arith, lt, d))) ∙ either_zero (has_rack c.args.cluster.now k))
+          | inr d ↦ other k d ∙ clear.zero k ge (omega (arith, lt, d)) ∙ sym (ap (λ z. cond (has_rack c.args.cluster.now k) z 0) (x.between k ge (omega (arith, lt, d))) ∙ zero_either (has_rack c.args.cluster.now k))
         ]
       ];
       past = later_past es c.next_asked-rack.new.passed 3 c.args.unit m (m + 1) (omega arith) x.past;

@@ -31,3 +31,9 @@ returns c =
           let s = size_is t e h i in
           omega (arith, a, u, s);
     }
+
+pub returns-then-not-is_narrow : goal.returns-then-not-is_narrow
+returns-then-not-is_narrow c =
+    let t = c.args.table.now in
+    let count : c.resources-resources.result ≡ t.cluster.resources = c.resources-resources.ensures.number ∙ ap (λ (x : ClusterRecord). x.resources) c.cluster.ensures.cluster in
+    sym (narrow_is t c.args.e.now c.requires.entry c.resources-resources.result count) ∙ (sym c.is_narrow.ensures ∙ c.if-not-is_narrow.true)

@@ -9,7 +9,7 @@ pub loop-e-preserved : goal.loop-e-preserved
 loop-e-preserved c =
     let es = c.args.entries.now in
     let k = c.loop-e.e-index in
-    let no_entry : Entry = record { app = record { 0 = 0 }; unit = record { 0 = 0 }; group = 0; priority = 0; count = 0; size = [] } in
+    let no_entry : Entry = record { app = record { 0 = 0 }; unit = record { 0 = 0 }; group = 0; priority = 0; count = 0; size = record { ref_ptr = (0, 0); now = [] } } in
     let e = get_or es k no_entry in
     let long = c.loop-e.invariant.long in
     let inside : e.group < 32 = c.requires k no_entry c.loop-e-test.true in

@@ -45,6 +45,9 @@ scope_of-scope-requires c =
       | Some x ↦ λ told. told_same w.cluster es w.cells c.args.app.0 x.now c.entries-counts.ensures.counts lt told
     ] (subst (λ (p : PlacerRecord). IfSome c.args.changes (λ x. AsksOtherwiseAt x.now p.seen c.args.app.0 es)) (sym c.self.view_is) c.requires.told)
 
+pub hear-more-requires-clause-here : goal.hear-more-requires-clause-here
+hear-more-requires-clause-here c = subst (λ (p : PlacerRecord). 0 < units_seen p.seen c.args.app.0) (sym c.self.view_is) c.requires.here
+
 pub invariant_of-self : goal.invariant_of-self
 invariant_of-self c =
     let w = c.self.inside.wishes in

@@ -17,17 +17,13 @@ use Rattle.place_pass.specs.Placers.{AreLevel, IsLevelWith}
 use Rattle.place_pass.specs.PlacerTrees.{HoldsLine}
 use Rattle.place_pass.proofs.StandsAfterChange.{holds_started}
 use Rattle.locality_tree.specs.Trees.{TreeRecord}
+use Rattle.fuxi_terms.proofs.IndexedLists.{repeated_at}
 use Rattle.place_pass.proofs.placer.Placer.start.Goals as goal
 
 none_in : (n a : ℕ) → get_or {A = List Cell} (replicate n []) a [] ≡ []
 none_in zero a = refl
 none_in (suc n) zero = refl
 none_in (suc n) (suc a) = none_in n a
-
-none_open : (n m : ℕ) → get_or (replicate n false) m false ≡ false
-none_open zero m = refl
-none_open (suc n) zero = refl
-none_open (suc n) (suc m) = none_open n m
 
 none_below : (u : ℕ) (some : Bool) → false ≡ (nat_lt u 0 && some)
 none_below u some = ap (λ b. b && some) (let f : false ≡ nat_lt u 0 = grind (arith, nat_tests) in f)
@@ -51,7 +47,7 @@ returns-clause-level c =
       stands = λ a u has. let f : false ≡ true = sym (ap (λ (ps : List Pair). has_pair (a, u) ps) c.in_ok-line.ensures) ∙ has in cc;
       kept = record {
         bounds = λ m a u opened has lt. let f : false ≡ true = sym (ap (λ (ps : List Pair). has_pair (a, u) ps) c.in_ok-line.ensures) ∙ has in cc;
-        later = λ m opened a u turn here ge lt. let f : true ≡ false = sym opened ∙ ap (λ (w : WishesRecord). get_or w.opened m false) c.in_ok-wishes.ensures ∙ none_open (length c.args.cluster.now.machines) m in cc;
+        later = λ m opened a u turn here ge lt. let f : true ≡ false = sym opened ∙ ap (λ (w : WishesRecord). get_or w.opened m false) c.in_ok-wishes.ensures ∙ repeated_at false (length c.args.cluster.now.machines) m in cc;
         rises = rising (λ (p : Pair). turn_at c.in_ok-turn_of.turn_of.items p.0 p.1) c.in_ok-line.line.pairs (subst (Rises (λ (p : Pair). turn_at c.in_ok-turn_of.turn_of.items p.0 p.1)) (sym c.in_ok-line.ensures) tt);
         below = λ a u has. let f : false ≡ true = sym (ap (λ (ps : List Pair). has_pair (a, u) ps) c.in_ok-line.ensures) ∙ has in cc;
         held = λ a u la lu. zero_at c.in_ok-held.held.items 2048 (c.in_ok-held.ensures.items_if_clones_equal (λ y e. search rules)) (a * 8 + u);
