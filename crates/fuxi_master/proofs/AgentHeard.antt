@@ -88,7 +88,7 @@ module _ (x : CoreRecord) (core : IsCore x) (m : ℕ) (old new : Down) (packet :
       stands = stands_heard x m old new packet heard test lt at hears to core.near.role core.near.stands (is core.near.role core.near.stands);
     };
     boots = record { known = core.boots.known; unknown = core.boots.unknown };
-    told = record { told = core.told.told };
+    told = record { told = core.told.told; credits = core.told.credits };
   }
 
   pub heard_within : (n : ℕ) → IsWithin n x → IsWithin n after

@@ -70,7 +70,7 @@ pub has_room : (news : News) (x y : CoreRecord) → IsCore x → MakesRoom news 
 has_room news x y core made =
     let near = core.near in
     let room = made.made near.role near.stands in
-    record { role = changed_by (λ M. line_up (preempted M room.plan)) near.role; stands = room.stands; told = record { told = core.told.told } }
+    record { role = changed_by (λ M. line_up (preempted M room.plan)) near.role; stands = room.stands; told = record { told = core.told.told; credits = core.told.credits } }
 
 pub room_made : (x y v : CoreRecord) (news : News) → x.serving ≡ true → IsNews None None news → MakesRoom news x y → EndsAlike news y v → (r : MasterRole) → StandsFor x r → Answers v Done (master_steps_alone r (Told MakesIt))
 room_made x y v news on is made ends r h =

@@ -7,8 +7,10 @@ use Rattle.fuxi_terms.specs.Counts.{count}
 use Rattle.fuxi_terms.specs.Jobs.{is_known, is_live, has_ended, unit_count}
 use Rattle.fuxi_terms.specs.Keys.{key_cmp}
 use Rattle.fuxi_terms.specs.Tallies.{ChangeRecord, empty_tally}
-use Rattle.fuxi_terms.specs.TallyKeys.{greatest_grant}
-use Rattle.fuxi_terms.proofs.Booleans.{both_true, both_false, nat_itself, number_is, eq_turned}
+use Rattle.fuxi_terms.specs.declared.Key.{Key}
+use Rattle.fuxi_terms.specs.Cluster.{has_machine}
+use Rattle.fuxi_terms.specs.TallyKeys.{back_key, credited_key, greatest_grant}
+use Rattle.fuxi_terms.proofs.Booleans.{and_true, both_true, both_false, nat_itself, number_is, eq_turned}
 use Rattle.fuxi_terms.proofs.CountsLemmas.{count_where}
 use Rattle.fuxi_terms.proofs.KeyOrders.{same_key}
 use Rattle.ledger_law.specs.Shapes.{IsTally}
@@ -19,7 +21,9 @@ use Rattle.written_net.specs.Net.{hear, is_taken}
 use Rattle.written_net.specs.Ledgers.{Ledger, nothing, at_key, TallyChange}
 use Rattle.written_net.specs.Channels.{master_id, app_id, dropped_by}
 use Rattle.written_net.specs.Sides.{Side, HeardSide, greatest_from, patched_by}
-use Rattle.written_roles.specs.Masters.{demand_of}
+use Rattle.written_roles.specs.Masters.{credited_of, demand_of}
+use Rattle.grant_table.specs.GrantTables.{as_known}
+use Rattle.place_pass.specs.Placers.{is_named}
 use Rattle.written_roles.specs.MasterSteps.{master_party, is_there, counted}
 use Rattle.written_roles.specs.MasterRoles.{MasterRole, report_excess}
 use Rattle.core_side.specs.Bodies.{tally_of}
@@ -28,10 +32,12 @@ use Rattle.core_side.specs.CoreSides.{HearsAlike}
 use Rattle.broadcast.specs.AllShown.{App, ShowsJob}
 use Rattle.fuxi_master.specs.Cores.{CoreRecord, IsNear, IsCore, HasBoots, IsWithin, StandsFor, patched_grants}
 use Rattle.fuxi_master.specs.Heard.{heard_of, with_heard, HearsApp, IsAppHeard, ChangesAsked}
-use Rattle.fuxi_master.specs.ToldAsHeard.{IsHeardOnly, AsksButAt}
+use Rattle.fuxi_master.specs.ToldAsHeard.{IsHeardOnly, ToldButAt}
 use Rattle.fuxi_master.proofs.AppHeardAlike.{each_app, heard_side, stands_heard, hears_app}
 use Rattle.fuxi_master.proofs.ChangedTallies.{IsLeft, left_untaken, made_taken, tally_left}
 use Rattle.fuxi_master.proofs.DemandTaken.{live_is}
+use Rattle.fuxi_master.proofs.NewlyCredited.{back_there, credited_shown}
+use Rattle.fuxi_master.proofs.Projected.{units_alike}
 use Rattle.fuxi_master.proofs.Indexed.{each_set, length_set}
 
 module _ (x : CoreRecord) (core : IsCore x) (a : ℕ) (old new : App) (packet : Packet) (heard : Heard)
@@ -124,6 +130,7 @@ module _ (x : CoreRecord) (core : IsCore x) (a : ℕ) (old new : App) (packet : 
             core.told.told b refl live (ap (λ (l : Ledger). l.head) (sym same) ∙ head) ∙ ap (counted R.cluster R.state.jobs b) (sym same)
         | false ↦ λ e head. core.told.told b refl live head
       ] refl head;
+      credits = λ b u m _. core.told.credits b u m refl;
     };
     bare = λ fresh off head.
         let got : heard_now.side.got ≡ nothing = untaken_got off ∙ ap (λ f. cond f nothing (R.sides (app_id a)).got) fresh in
@@ -147,7 +154,7 @@ module _ (x : CoreRecord) (core : IsCore x) (a : ℕ) (old new : App) (packet : 
         let one : patched_by from e.got (TallyChange change) ≡ Ok heard_now.side.got = (λ i. patched_by from (cond ((sym fresh ∙ alike.fresh) i) nothing e.got) (content_of (sym body i))) ∙ made in
         tally_left (greatest_from from) (dropped_by from) e.got heard_now.side.got change one
 
-    asked_new : heard.fresh ≡ false → is_taken heard.what ≡ true → new.incoming.received.head ≡ x.epoch → AsksButAt change.entries a new.incoming.received.entries x.allotment
+    asked_new : heard.fresh ≡ false → is_taken heard.what ≡ true → new.incoming.received.head ≡ x.epoch → ToldButAt change.entries a new.incoming.received.entries new.outgoing.present.entries x.allotment
     asked_new fresh taken now =
         let h = core.near.stands in
         let e = R.sides (app_id a) in
@@ -160,20 +167,32 @@ module _ (x : CoreRecord) (core : IsCore x) (a : ℕ) (old new : App) (packet : 
         let kept : change.head ≡ e.got.head = sym left.head ∙ ap (λ (l : Ledger). l.head) got_new ∙ now ∙ sym before in
         let live : is_live R.state.jobs a ≡ true = ap (λ js. is_live js a) h.stands.jobs ∙ live_is x.known.jobs a known ∙ counts.1 in
         let told = core.told.told a refl live (before ∙ sym h.stands.epoch) in
+        let stays : (k : Key) → is_named k change.entries ≡ false → count key_cmp e.got.entries k ≡ count key_cmp new.incoming.received.entries k = λ k off. sym (left.entries kept k off) ∙ ap (λ (l : Ledger). count key_cmp l.entries k) got_new in
         record {
-          cluster = R.cluster;
-          master = R.state;
-          allots = h.stands.allots;
-          asks = λ k off.
-              ap (λ l. at_key l k) told
-              ∙ count_where key_cmp same_key p e.got.entries k
-              ∙ ap (λ n. cond (p k) n 0) (sym (left.entries kept k off) ∙ ap (λ (l : Ledger). count key_cmp l.entries k) got_new)
-              ∙ sym (count_where key_cmp same_key p new.incoming.received.entries k);
+          asks = record {
+            cluster = R.cluster;
+            master = R.state;
+            allots = h.stands.allots;
+            asks = λ k off.
+                ap (λ l. at_key l k) told
+                ∙ count_where key_cmp same_key p e.got.entries k
+                ∙ ap (λ n. cond (p k) n 0) (stays k off)
+                ∙ sym (count_where key_cmp same_key p new.incoming.received.entries k);
+          };
+          credits = λ k off back unit machine.
+              let what = number_is k.what 5 back in
+              let named : back_key k.unit k.number ≡ k = (λ i. record { what = sym what i; unit = k.unit; number = k.number }) in
+              let units = units_alike (as_known x.allotment.table.jobs) R.state.jobs h.stands.allots.placing.jobs a in
+              let there : p k ≡ true = back_there R.cluster (unit_count R.state.jobs a) k back ∙ (λ i. nat_lt k.unit (length (sym units i)) && has_machine (sym h.stands.allots.placing.cluster i) k.number) ∙ and_true _ _ unit machine in
+              let had : at_key (demand_of R.state a) k ≡ count key_cmp new.incoming.received.entries k = ap (λ l. at_key l k) told ∙ count_where key_cmp same_key p e.got.entries k ∙ ap (λ b. cond b (count key_cmp e.got.entries k) 0) there ∙ stays k off in
+              let paid : at_key (demand_of R.state a) k ≤ count key_cmp (credited_of R.state a) (credited_key k.unit k.number) = subst (λ (q : Key). at_key (demand_of R.state a) q ≤ count key_cmp (credited_of R.state a) (credited_key k.unit k.number)) named (core.told.credits a k.unit k.number refl) in
+              let shown : count key_cmp (credited_of R.state a) (credited_key k.unit k.number) ≡ count key_cmp new.outgoing.present.entries (credited_key k.unit k.number) = ap (λ cs. count key_cmp cs (credited_key k.unit k.number)) (h.stands.credited a old at) ∙ credited_shown old.outgoing.present.entries k.unit k.number ∙ ap (λ o. count key_cmp o.present.entries (credited_key k.unit k.number)) (sym outgoing) in
+              omega (arith, had, paid, shown);
         }
 
     changes_asked : ChangesAsked a heard.fresh (is_taken heard.what) change after
     changes_asked = record {
-      asks = λ d there. each (λ b (d : App). nat_eq a b ≡ true → heard.fresh ≡ false → is_taken heard.what ≡ true → d.incoming.received.head ≡ x.epoch → AsksButAt change.entries a d.incoming.received.entries x.allotment)
+      asks = λ d there. each (λ b (d : App). nat_eq a b ≡ true → heard.fresh ≡ false → is_taken heard.what ≡ true → d.incoming.received.head ≡ x.epoch → ToldButAt change.entries a d.incoming.received.entries d.outgoing.present.entries x.allotment)
           (λ _. asked_new)
           (λ b d off e t. absurd (let f : true ≡ false = sym t ∙ off in cc))
           a d there (nat_itself a);

@@ -1,11 +1,11 @@
 -- Numbers below one more, and a list by its places.
-use Rattle.std.proofs.Common.{◌≡◌, ◌≢◌, inl, inr, ℕ, zero, suc, ◌+◌, ◌<◌, Bool, true, false, nat_eq, nat_lt, List, [], ◌∷◌, length, get_or, map, refl, sym, ◌∙◌, ap, arith}
+use Rattle.std.proofs.Common.{◌≡◌, inl, inr, ℕ, zero, suc, ◌+◌, ◌<◌, Bool, true, false, nat_eq, nat_lt, List, [], ◌∷◌, length, get_or, map, refl, sym, ◌∙◌, ap, arith}
 use Rattle.std.specs.Prelude.{◌&&◌}
 use Rattle.std.proofs.lemmas.Bool.{cases_lt}
 use Rattle.std.proofs.lemmas.Bool.Decides.{nat_tests}
 use Rattle.std.proofs.lemmas.List.{ext_get_or, get_or-map, get_or_append_left, get_or_at, length-map}
 use Rattle.fuxi_terms.specs.Lists.{below}
-use Rattle.fuxi_terms.proofs.Booleans.{false_and, false_right, nat_itself, number_is}
+use Rattle.fuxi_terms.proofs.Booleans.{false_and, false_right, number_is}
 use Rattle.fuxi_terms.proofs.Lists.{length-below}
 
 pub same_below : (m n : ℕ) → nat_eq m n ≡ false → nat_lt m n ≡ nat_lt m (n + 1)

@@ -31,7 +31,7 @@ use Rattle.schedule_unit.specs.declared.party.AppNo.{AppNo}
 use Rattle.fuxi_master.specs.Cores.{CoreRecord, IsKept, IsNear, IsTidy, HasBoots, StandsFor}
 use Rattle.fuxi_master.specs.Heard.{IsDemanded, IsCredit, Changes, ChangesAsked, demanding}
 use Rattle.fuxi_master.specs.Steps.{StandsMid}
-use Rattle.fuxi_master.specs.ToldAsHeard.{AsksButAt}
+use Rattle.fuxi_master.specs.ToldAsHeard.{ToldButAt}
 use Rattle.fuxi_master.proofs.AllotsAlike.{allots_alike}
 use Rattle.fuxi_master.proofs.NewlyCredited.{raised_as, all_given, credited_shown}
 use Rattle.fuxi_master.proofs.NotYetShown.{credited_same, mid_by, same_jobs, within_soon}
@@ -68,7 +68,7 @@ met_line : (fresh : Bool) (M : Master) (a : ℕ) → (meet_app fresh M a).line �
 met_line true M a = refl
 met_line false M a = refl
 
-credited_met : (fresh : Bool) (M : Master) (a b : ℕ) → credited_of (meet_app fresh M a) b ≡ cond (fresh && nat_eq a b) [] (credited_of M b)
+pub credited_met : (fresh : Bool) (M : Master) (a b : ℕ) → credited_of (meet_app fresh M a) b ≡ cond (fresh && nat_eq a b) [] (credited_of M b)
 credited_met true M a b = put_at a b [] [] M.credited
 credited_met false M a b = refl
 
@@ -253,7 +253,7 @@ slot_there x kept a known o read is = let f : false ≡ true = kept.slots a None
 
 -- where its demand counts still, a change that was taken of it names the keys at which it asks otherwise
 pub asked_live : (x : CoreRecord) (a : ℕ) (fresh taken live : Bool) (d : App) → slice_get x.apps a ≡ Some (Some d) → live ≡ (taken && (nat_eq d.incoming.received.head x.epoch && not (has_ended x.known.jobs a)))
-    → (o : Option ChangeRecord) → IfSome o (λ change. ChangesAsked a fresh taken change x) → IfSome o (λ change. fresh ≡ false → live ≡ true → AsksButAt change.entries a d.incoming.received.entries x.allotment)
+    → (o : Option ChangeRecord) → IfSome o (λ change. ChangesAsked a fresh taken change x) → IfSome o (λ change. fresh ≡ false → live ≡ true → ToldButAt change.entries a d.incoming.received.entries d.outgoing.present.entries x.allotment)
 asked_live x a fresh taken live d at live_when o asks =
     IfSome_then o asks (λ change asked old on.
     let counts = both_true taken (nat_eq d.incoming.received.head x.epoch && not (has_ended x.known.jobs a)) (sym live_when ∙ on) in

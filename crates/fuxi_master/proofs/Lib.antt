@@ -13,6 +13,7 @@ pub mod AppHeardAlike
 pub mod Quiet
 pub mod ReportAdopted
 pub mod NewlyCredited
+pub mod CreditedAlready
 pub mod Told
 pub mod Ordered
 pub mod PeersSides

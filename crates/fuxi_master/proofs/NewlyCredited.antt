@@ -51,7 +51,7 @@ given_still k v cs given (e ∷ es) back b h =
     )
 
 -- a number given back counts where its unit and machine are there
-back_there : (c : ClusterRecord) (units : ℕ) (k : Key) → is_back k ≡ true → is_there c units k ≡ (nat_lt k.unit units && has_machine c k.number)
+pub back_there : (c : ClusterRecord) (units : ℕ) (k : Key) → is_back k ≡ true → is_there c units k ≡ (nat_lt k.unit units && has_machine c k.number)
 back_there c units k back =
     let w = number_is k.what 5 back in
     ap (λ n. nat_lt k.unit units && (nat_eq n 1 || cond (nat_eq n 3) (has_rack c k.number) (has_machine c k.number))) w

@@ -207,7 +207,7 @@ module _ (law : (c : ClusterRecord) (sides : Id → Side) (M : Master) (forced :
         known = λ a d e _. ap (λ (t : TallyRecord). t.head) (slots.each a d e).present ∙ sym (slots.each a d e).place;
         unknown = λ a d e t. cc;
       };
-      told = told_first c (first_master epoch known.jobs known.bans) (map app_id (job_numbers known.jobs)) positive;
+      told = told_first c (first_master epoch known.jobs known.bans) (map app_id (job_numbers known.jobs)) positive refl;
     }
 
 pub started_within : (c : ClusterRecord) (epoch : ℕ) (known : Knowledge) (numbers : ℕ) (x y : AllotmentRecord) → AreAdmitted known.jobs numbers x y → (agents : List Down) → AreDownsStarted epoch (length c.machines) agents

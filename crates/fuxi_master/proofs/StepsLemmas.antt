@@ -163,7 +163,7 @@ module _ (law : (c : ClusterRecord) (sides : Id → Side) (M : Master) (forced :
       known = λ b d e _. boots.known b d e (ap (λ t. t && nat_eq b a) off);
       unknown = λ b d e t. cc;
     };
-    told = record { told = λ b _ live head. only.others.told b (λ i. (off i || untaken i) && nat_eq b a) live head };
+    told = record { told = λ b _ live head. only.others.told b (λ i. (off i || untaken i) && nat_eq b a) live head; credits = λ b u m _. only.others.credits b u m (λ i. (off i || untaken i) && nat_eq b a) };
   }
 
   -- an application's packet that changes nothing of it

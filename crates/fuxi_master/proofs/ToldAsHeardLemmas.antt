@@ -1,15 +1,18 @@
 -- That what a master was told of demands is what it received is kept by each step.
-use Rattle.std.proofs.Common.{◌≡◌, ℕ, ◌<◌, Bool, true, false, cond, not, nat_eq, List, [], ◌∷◌, length, Option, Some, refl, sym, ◌∙◌, ap, subst, arith}
+use Rattle.std.proofs.Common.{◌≡◌, ℕ, ◌<◌, ◌≤◌, Bool, true, false, cond, not, nat_eq, List, [], ◌∷◌, length, Option, Some, refl, sym, ◌∙◌, ap, subst, arith}
 use Rattle.std.specs.Prelude.{◌&&◌, ◌||◌}
 use Rattle.std.specs.Option.{unwrap_or, option_map}
 use Rattle.std.specs.Ordering.{nat_cmp}
 use Rattle.std.specs.FinMap.Entries.{put, find, where_key}
 use Rattle.fuxi_terms.specs.Cluster.{ClusterRecord, JobRecord}
 use Rattle.fuxi_terms.specs.Jobs.{KnownJob, job_of, is_known, is_live}
+use Rattle.fuxi_terms.specs.declared.Key.{Key}
+use Rattle.fuxi_terms.specs.Counts.{count}
 use Rattle.fuxi_terms.specs.Keys.{key_cmp}
+use Rattle.fuxi_terms.specs.TallyKeys.{back_key, credited_key}
 use Rattle.fuxi_terms.proofs.Booleans.{nat_itself, number_is, and_false, or_false, eq_turned}
 use Rattle.written_net.specs.Net.{Id}
-use Rattle.written_net.specs.Ledgers.{Ledger, nothing, tally_ledger}
+use Rattle.written_net.specs.Ledgers.{Ledger, nothing, at_key, tally_ledger}
 use Rattle.written_net.specs.Channels.{app_id}
 use Rattle.written_net.specs.Sides.{Side, new_side, resynced_side}
 use Rattle.written_roles.specs.HardState.{with_job, with_ended}
@@ -21,20 +24,24 @@ use Rattle.fuxi_master.specs.Cores.{CoreRecord, StandsFor}
 use Rattle.fuxi_master.specs.Commands.{changed_by, admitting}
 use Rattle.fuxi_master.specs.Heard.{demanding}
 use Rattle.fuxi_master.specs.ToldAsHeard.{IsToldAsHeard, IsHeardOnly}
-use Rattle.fuxi_master.proofs.DemandTaken.{SameParts, demand_met, met_parts}
+use Rattle.fuxi_master.proofs.DemandTaken.{SameParts, credited_met, demand_met, met_parts}
+use Rattle.fuxi_master.proofs.CreditedAlready.{raised_covers}
 use Rattle.fuxi_master.proofs.KnownJobs.{behind_other}
 use Rattle.fuxi_master.proofs.Readied.{serving_same}
 use Rattle.fuxi_master.proofs.PeersSides.{published_got, resynced_at}
 use Rattle.fuxi_master.proofs.Told.{put_at}
 
 -- the same jobs and demands, and the same received
-pub told_alike : (but : ℕ → Bool) (c : ClusterRecord) (M N : Master) (sides after : Id → Side) → N.epoch ≡ M.epoch → N.jobs ≡ M.jobs → N.demands ≡ M.demands → ((a : ℕ) → (after (app_id a)).got ≡ (sides (app_id a)).got)
+pub told_alike : (but : ℕ → Bool) (c : ClusterRecord) (M N : Master) (sides after : Id → Side) → N.epoch ≡ M.epoch → N.jobs ≡ M.jobs → N.demands ≡ M.demands → N.credited ≡ M.credited → ((a : ℕ) → (after (app_id a)).got ≡ (sides (app_id a)).got)
     → IsToldAsHeard but (record { cluster = c; state = M; sides = sides }) → IsToldAsHeard but (record { cluster = c; state = N; sides = after })
-told_alike but c M N sides after epoch jobs demands got t = record {
+told_alike but c M N sides after epoch jobs demands credited got t = record {
   told = λ a off live head.
       ap (λ ds. unwrap_or (find nat_cmp a ds) nothing) demands
       ∙ t.told a off (ap (λ js. is_live js a) (sym jobs) ∙ live) (ap (λ (l : Ledger). l.head) (sym (got a)) ∙ head ∙ epoch)
       ∙ (λ i. counted c (sym jobs i) a (sym (got a) i));
+  credits = λ a u m off.
+      subst (λ (ds : List (ℕ × Ledger)). at_key (unwrap_or (find nat_cmp a ds) nothing) (back_key u m) ≤ count key_cmp (credited_of N a) (credited_key u m)) (sym demands)
+      (subst (λ (cs : List (ℕ × List (Key × ℕ))). at_key (demand_of M a) (back_key u m) ≤ count key_cmp (unwrap_or (find nat_cmp a cs) []) (credited_key u m)) (sym credited) (t.credits a u m off));
 }
 
 -- the end of a step
@@ -43,12 +50,12 @@ told_ends but r forced t =
     let c = r.cluster in
     let L = line_up (phased c r.state) in
     let same = serving_same c L in
-    told_alike but c r.state (ready c r.state) r.sides (publish_alone r.sides (offers_alone c r.sides (ready c r.state) forced)) same.epoch same.jobs same.demands
+    told_alike but c r.state (ready c r.state) r.sides (publish_alone r.sides (offers_alone c r.sides (ready c r.state) forced)) same.epoch same.jobs same.demands same.credited
     (λ a. published_got (offers_alone c r.sides (ready c r.state) forced) r.sides (app_id a)) t
 
 -- a resync
 pub told_resynced : (r : MasterRole) → IsToldAsHeard (λ _. false) r → IsToldAsHeard (λ _. false) (master_resynced r)
-told_resynced r t = told_alike (λ _. false) r.cluster r.state r.state r.sides (master_resynced r).sides refl refl refl
+told_resynced r t = told_alike (λ _. false) r.cluster r.state r.state r.sides (master_resynced r).sides refl refl refl refl
     (λ a. ap (λ (e : Side). e.got) (resynced_at (peers r.cluster r.state) r.sides (app_id a)) ∙ by (is_one_of (app_id a) (peers r.cluster r.state)) (r.sides (app_id a))) t
   where
     by : (b : Bool) (e : Side) → (cond b (resynced_side e) e).got ≡ e.got
@@ -56,9 +63,12 @@ told_resynced r t = told_alike (λ _. false) r.cluster r.state r.state r.sides (
     by false e = refl
 
 -- a start: nothing was received
-pub told_first : (c : ClusterRecord) (M : Master) (forced : List Id) → 0 < M.epoch → IsToldAsHeard (λ _. false) (ends_alone c (λ q. new_side) M forced)
-told_first c M forced positive = told_ends (λ _. false) (record { cluster = c; state = M; sides = λ q. new_side }) forced
-    (record { told = λ a off live head. absurd (let zero : 0 ≡ M.epoch = head in omega (arith, positive, zero)) })
+pub told_first : (c : ClusterRecord) (M : Master) (forced : List Id) → 0 < M.epoch → M.demands ≡ [] → IsToldAsHeard (λ _. false) (ends_alone c (λ q. new_side) M forced)
+told_first c M forced positive none = told_ends (λ _. false) (record { cluster = c; state = M; sides = λ q. new_side }) forced
+    (record {
+      told = λ a off live head. absurd (let zero : 0 ≡ M.epoch = head in omega (arith, positive, zero));
+      credits = λ a u m off. subst (λ (ds : List (ℕ × Ledger)). at_key (unwrap_or (find nat_cmp a ds) nothing) (back_key u m) ≤ count key_cmp (credited_of M a) (credited_key u m)) (sym none) (omega arith);
+    })
 
 -- what counts of a demand is told by the job
 abbrev counted_of : ClusterRecord → Option KnownJob → Ledger → Ledger
@@ -79,6 +89,7 @@ told_admitted x positive j unknown r h t = record {
         t.told a off (ap (λ (o : Option KnownJob). unwrap_or (option_map (λ (k : KnownJob). not k.ended) o) false) (sym same) ∙ live) head
         ∙ ap (λ (o : Option KnownJob). counted_of r.cluster o (r.sides (app_id a)).got) (sym same)
   ] refl;
+  credits = t.credits;
 }
 
 -- a job that ends: others are as before
@@ -108,6 +119,8 @@ told_ended a r t = record {
         ∙ t.told b off (ap (λ (o : Option KnownJob). unwrap_or (option_map (λ (k : KnownJob). not k.ended) o) false) (sym same) ∙ live) head
         ∙ ap (λ (o : Option KnownJob). counted_of r.cluster o (r.sides (app_id b)).got) (sym same)
   ] refl;
+  credits = λ b u m off. subst (λ (d : Ledger). at_key d (back_key u m) ≤ count key_cmp (credited_of r.state b) (credited_key u m)) (sym (put_at a b nothing nothing r.state.demands))
+      (elim (nat_eq a b) as (λ q. at_key (cond q nothing (demand_of r.state b)) (back_key u m) ≤ count key_cmp (credited_of r.state b) (credited_key u m)) [ true ↦ omega arith | false ↦ t.credits b u m off ]);
 }
 
 -- what came of an application is taken
@@ -163,6 +176,40 @@ module _ (a : ℕ) (fresh taken : Bool) (r : MasterRole) (only : IsHeardOnly a f
         | false ↦ parts
       ]
 
+  -- another job is credited as before
+  other_credits : (b : ℕ) → nat_eq a b ≡ false → credited_of after b ≡ credited_of M b
+  other_credits b off = elim taken as (λ t. credited_of (cond t (take_demand met a D) met) b ≡ credited_of M b) [
+    | true ↦ elim (nat_eq D.head met.epoch && is_live met.jobs a) as (λ q. credited_of (cond q (record met { demands = put nat_cmp a D met.demands; table = credit a (credited_of met a) D.entries met.table; credited = put nat_cmp a (raise_credited (credited_of met a) D.entries) met.credited }) (record met { demands = put nat_cmp a nothing met.demands })) b ≡ credited_of M b) [
+      | true ↦ put_at a b (raise_credited (credited_of met a) D.entries) [] met.credited ∙ ap (λ q. cond q (raise_credited (credited_of met a) D.entries) (credited_of met b)) off ∙ met_credits b off
+      | false ↦ met_credits b off
+    ]
+    | false ↦ met_credits b off
+  ]
+    where
+      met_credits : (b : ℕ) → nat_eq a b ≡ false → credited_of met b ≡ credited_of M b
+      met_credits b off = credited_met fresh M a b ∙ ap (λ q. cond (fresh && q) [] (credited_of M b)) off ∙ ap (λ q. cond q [] (credited_of M b)) (and_false fresh)
+
+  -- what the job itself gives back is credited: the demand that counts, or none
+  itself_credits : (fresh || taken) ≡ true → (u m : ℕ) → at_key (demand_of after a) (back_key u m) ≤ count key_cmp (credited_of after a) (credited_key u m)
+  itself_credits told u m = elim taken as (λ t. taken ≡ t → Paid (cond t (take_demand met a D) met)) [
+    | true ↦ λ _. elim (nat_eq D.head met.epoch && is_live met.jobs a) as (λ q. Paid (cond q (record met { demands = put nat_cmp a D met.demands; table = credit a (credited_of met a) D.entries met.table; credited = put nat_cmp a (raise_credited (credited_of met a) D.entries) met.credited }) (record met { demands = put nat_cmp a nothing met.demands }))) [
+      | true ↦
+          subst (λ (d : Ledger). at_key d (back_key u m) ≤ count key_cmp (unwrap_or (find nat_cmp a (put nat_cmp a (raise_credited (credited_of met a) D.entries) met.credited)) []) (credited_key u m)) (sym (itself D nothing met.demands))
+          (subst (λ cs. at_key D (back_key u m) ≤ count key_cmp cs (credited_key u m)) (sym (itself (raise_credited (credited_of met a) D.entries) [] met.credited)) (raised_covers (credited_of met a) D.entries u m))
+      | false ↦ subst (λ (d : Ledger). at_key d (back_key u m) ≤ count key_cmp (credited_of met a) (credited_key u m)) (sym (itself nothing nothing met.demands)) (omega arith)
+    ]
+    | false ↦ λ t.
+        let new : fresh ≡ true = sym (or_false fresh) ∙ ap (λ q. fresh || q) (sym t) ∙ told in
+        let none : demand_of met a ≡ nothing = demand_met fresh M a a ∙ (λ i. cond (new i && nat_itself a i) nothing (demand_of M a)) in
+        subst (λ (d : Ledger). at_key d (back_key u m) ≤ count key_cmp (credited_of met a) (credited_key u m)) (sym none) (omega arith)
+  ] refl
+    where
+      Paid : Master → Type 0
+      Paid N = at_key (demand_of N a) (back_key u m) ≤ count key_cmp (credited_of N a) (credited_key u m)
+
+      itself : {X : Type 0} (v none : X) (xs : List (ℕ × X)) → unwrap_or (find nat_cmp a (put nat_cmp a v xs)) none ≡ v
+      itself v none xs = put_at a a v none xs ∙ ap (λ q. cond q v (unwrap_or (find nat_cmp a xs) none)) (nat_itself a)
+
   pub told_demanding : (fresh || taken) ≡ true → IsToldAsHeard (λ _. false) (demanding fresh taken r a)
   told_demanding told = record {
     told = λ b _ live head.
@@ -177,4 +224,11 @@ module _ (a : ℕ) (fresh taken : Bool) (r : MasterRole) (only : IsHeardOnly a f
               (itself_asks told (subst (λ (k : ℕ). is_live M.jobs k ≡ true) (sym n) lives) (subst (λ (k : ℕ). (r.sides (app_id k)).got.head ≡ M.epoch) (sym n) now))
           | false ↦ λ e. other_asks b e ∙ only.others.told b (ap (λ q. (fresh || taken) && q) (eq_turned b a ∙ e) ∙ and_false (fresh || taken)) lives now
         ] refl) ∙ ap (λ js. counted r.cluster js b (r.sides (app_id b)).got) (sym jobs);
+    credits = λ b u m _. elim (nat_eq a b) as (λ q. nat_eq a b ≡ q → at_key (demand_of after b) (back_key u m) ≤ count key_cmp (credited_of after b) (credited_key u m)) [
+      | true ↦ λ e. subst (λ (k : ℕ). at_key (demand_of after k) (back_key u m) ≤ count key_cmp (credited_of after k) (credited_key u m)) (number_is a b e) (itself_credits told u m)
+      | false ↦ λ e.
+          subst (λ (d : Ledger). at_key d (back_key u m) ≤ count key_cmp (credited_of after b) (credited_key u m)) (sym (other_asks b e))
+          (subst (λ (cs : List (Key × ℕ)). at_key (demand_of M b) (back_key u m) ≤ count key_cmp cs (credited_key u m)) (sym (other_credits b e))
+          (only.others.credits b u m (ap (λ q. (fresh || taken) && q) (eq_turned b a ∙ e) ∙ and_false (fresh || taken))))
+    ] refl;
   }

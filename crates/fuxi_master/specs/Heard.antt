@@ -38,7 +38,7 @@ use Rattle.fuxi_terms.specs.Jobs.{unit_count}
 use Rattle.grant_table.specs.GrantTables.{as_known}
 use Rattle.fuxi_master.specs.Cores.{CoreRecord, StandsFor, IsNear, HasBoots, IsCore, IsWithin, IsWithinSoon}
 use Rattle.fuxi_master.specs.Steps.{IsMid, StandsMid}
-use Rattle.fuxi_master.specs.ToldAsHeard.{IsHeardOnly, AsksButAt}
+use Rattle.fuxi_master.specs.ToldAsHeard.{IsHeardOnly, ToldButAt}
 
 -- what is tested of a report: what is known, what the machine has, the epoch, whether the machine is reported and banned
 pub record ReportTest : Type 0 where
@@ -114,9 +114,10 @@ pub record HearsApp (a : ℕ) (x : Packet) (heard : Heard) (new : CoreRecord) (r
   pub says : heard.what ≡ (heard_of r (app_id a) x).what
   pub role : StandsFor new (with_heard r (app_id a) (heard_of r (app_id a) x))
 
--- a change that was taken of a demand that counted: it names the keys at which the demand, where it counts still, asks otherwise than before
+-- a change that was taken of a demand that counted: it names the keys at which the demand, where it counts still, asks or gives back otherwise
+-- than before
 pub record ChangesAsked (a : ℕ) (fresh taken : Bool) (change : ChangeRecord) (x : CoreRecord) : Type 0 where
-  pub asks : (d : App) → slice_get x.apps a ≡ Some (Some d) → fresh ≡ false → taken ≡ true → d.incoming.received.head ≡ x.epoch → AsksButAt change.entries a d.incoming.received.entries x.allotment
+  pub asks : (d : App) → slice_get x.apps a ≡ Some (Some d) → fresh ≡ false → taken ≡ true → d.incoming.received.head ≡ x.epoch → ToldButAt change.entries a d.incoming.received.entries d.outgoing.present.entries x.allotment
 
 pub record IsAppHeard (a : ℕ) (x : Packet) (heard : Heard) (change : Option ChangeRecord) (old new : CoreRecord) : Type 0 where
   pub near : IsNear new

@@ -4,10 +4,11 @@ ghost use Rattle.std.specs.Prelude.{◌≡◌, ◌<◌, ◌&&◌, ◌||◌, not,
 ghost use Rattle.fuxi_terms.specs.Counts.{AreCounts};
 ghost use Rattle.fuxi_terms.specs.Keys.{key_cmp};
 ghost use Rattle.fuxi_terms.specs.Tallies.{empty_tally};
-ghost use Rattle.fuxi_terms.specs.TallyKeys.{greatest_demand, greatest_grant};
+ghost use Rattle.std.specs.List.{list_any};
+ghost use Rattle.fuxi_terms.specs.TallyKeys.{greatest_demand, greatest_grant, is_back};
 ghost use Rattle.fuxi_terms.specs.Jobs.{has_ended, is_known, unit_count};
 ghost use Rattle.grant_table.specs.GrantTables.{as_known};
-ghost use Rattle.allotment.specs.Allotted.{AllWait, newly_credited};
+ghost use Rattle.allotment.specs.Allotted.{AllWait, CreditsBack, newly_credited};
 ghost use Rattle.ledger_law.specs.Shapes.{IsTally};
 ghost use Rattle.party_ledgers.specs.Packets.{IsFormed};
 ghost use Rattle.party_ledgers.specs.declared.packets.Body.TheVariants.{DemandDelta};
@@ -15,7 +16,7 @@ ghost use Rattle.core_side.specs.Bodies.{tally_of};
 ghost use Rattle.core_side.specs.CoreSides.{HearsAlike};
 ghost use Rattle.schedule_unit.specs.declared.party.Role.TheVariants.{Master as AsMaster, App as AsApp};
 ghost use Rattle.fuxi_master.specs.Cores.{IsCore, IsNear, HasBoots, patched_grants};
-ghost use Rattle.fuxi_master.specs.ToldAsHeard.{AsksButAt};
+ghost use Rattle.fuxi_master.specs.ToldAsHeard.{ToldButAt};
 ghost use Rattle.fuxi_master.specs.Heard.{IsAppHeard, ChangesAsked, Changes, IsCredited, IsDemanded, demanding};
 ghost use Rattle.fuxi_master.specs.Seen.{core_of};
 
@@ -23,6 +24,7 @@ use crate::state::Core;
 use allotment::Allotment;
 use broadcast::News;
 use core_side::{NoLimit, Reply, Side};
+use fuxi_terms::tally_keys::BACK;
 use fuxi_terms::{Key, OutOfMemory};
 use hard_state::Known;
 use ledger_law::{Change, Ledger};
@@ -131,7 +133,41 @@ fn counts(taken: bool, side: &Side<Grants, Demand>, epoch: u64, known: &Known, a
     taken && (side.got().head() == epoch && !known.ended(app))
 }
 
-// Of what a demand gives back the table loses what is not credited yet, and the demand is then the job's. What is credited now is told.
+// Whether any of these changes is of what is given back.
+fn gives_back(changes: &[(Key, i64)]) -> bool
+    ensures { result ≡ list_any (λ e. is_back e.0) changes.now }
+{
+    changes.iter().any(|(key, _)| key.what == BACK)
+}
+
+// Of what a demand gives back the table loses what is not credited yet. All of it is where no change of the demand is of that, so that it is
+// not walked then.
+fn credit(
+    alloc: Global,
+    allotment: &mut Allotment,
+    app: AppNo,
+    demand: &Demand,
+    given: &Grants,
+    change: &Option<Change>,
+) -> Result<Vec<(Key, u64)>, OutOfMemory>
+    requires waits { AllWait allotment.old }
+    requires told { IfSome change.now (λ change. ToldButAt change.entries app.0 demand.now.entries given.now.entries allotment.old) }
+    ensures credits { OnOk result (CreditsBack app.0 demand.now.entries given.now.entries allotment.old allotment.new) }
+    ensures counts { OnOk result (AreCounts key_cmp greatest_demand demand.now.entries) }
+    ensures numbers { IfOk result (λ numbers. numbers.items ≡ newly_credited allotment.old.table.cluster (unit_count (as_known allotment.old.table.jobs) app.0) given.now.entries demand.now.entries) }
+{
+    let _entries = demand.entries();
+    let _sound = allotment.table().cluster();
+    if let Some(change) = change {
+        if !gives_back(change.entries()) {
+            return Ok(Vec::new(alloc));
+        }
+    }
+    let numbers = allotment.credit(alloc, app, demand, given)?;
+    Ok(numbers)
+}
+
+// What a demand gives back is credited, and the demand is then the job's. What is credited now is told.
 fn credited(
     alloc: Global,
     allotment: &mut Allotment,
@@ -142,12 +178,12 @@ fn credited(
 ) -> Result<Vec<(Key, u64)>, OutOfMemory>
     requires waits { AllWait allotment.old }
     requires units { 0 < unit_count (as_known allotment.old.table.jobs) app.0 }
-    requires told { IfSome change.now (λ change. AsksButAt change.entries app.0 demand.now.entries allotment.old) }
+    requires told { IfSome change.now (λ change. ToldButAt change.entries app.0 demand.now.entries given.now.entries allotment.old) }
     ensures credits { OnOk result (IsCredited app.0 demand.now.entries given.now.entries allotment.old allotment.new) }
     ensures counts { OnOk result (AreCounts key_cmp greatest_demand demand.now.entries) }
     ensures numbers { IfOk result (λ numbers. numbers.items ≡ newly_credited allotment.old.table.cluster (unit_count (as_known allotment.old.table.jobs) app.0) given.now.entries demand.now.entries) }
 {
-    let numbers = allotment.credit(alloc, app, demand, given)?;
+    let numbers = credit(alloc, allotment, app, demand, given, change)?;
     let _placer = allotment.placer();
     if let Some(change) = change {
         allotment.asked(app, demand, Some(change.entries()));
@@ -170,7 +206,7 @@ fn demanded(
 ) -> Result<Vec<(Key, u64)>, OutOfMemory>
     requires waits { AllWait allotment.old }
     requires units { 0 < unit_count (as_known allotment.old.table.jobs) app.0 }
-    requires told { IfSome change.now (λ change. fresh ≡ false → live ≡ true → AsksButAt change.entries app.0 side.now.incoming.received.entries allotment.old) }
+    requires told { IfSome change.now (λ change. fresh ≡ false → live ≡ true → ToldButAt change.entries app.0 side.now.incoming.received.entries side.now.outgoing.present.entries allotment.old) }
     ensures { IfOk result (λ numbers. IsDemanded app.0 fresh live side.now allotment.old allotment.new numbers.items) }
 {
     let _entries = side.got().entries();

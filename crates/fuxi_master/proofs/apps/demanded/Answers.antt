@@ -8,7 +8,7 @@ use Rattle.fuxi_terms.specs.TallyKeys.{greatest_demand}
 use Rattle.fuxi_terms.specs.Tallies.{TallyRecord}
 use Rattle.allotment.specs.Allotted.{newly_credited}
 use Rattle.fuxi_master.specs.Heard.{IsCredited}
-use Rattle.fuxi_master.specs.ToldAsHeard.{AsksButAt}
+use Rattle.fuxi_master.specs.ToldAsHeard.{ToldButAt}
 use Rattle.fuxi_master.proofs.Demanded.{dead_demanded, alive_demanded}
 use Rattle.fuxi_master.proofs.apps.demanded.Goals as goal
 
@@ -43,7 +43,9 @@ credited-requires-2-clause-told c =
     let d = c.args.side.now in
     let on : c.args.live ≡ true = search rules in
     let old : c.args.fresh ≡ false = search rules in
-    IfSome_then c.args.change.now c.requires.told (λ change asks. subst (λ (t : TallyRecord). AsksButAt change.entries a t.entries x) (sym c.got-2.ensures.received) (asks old on))
+    IfSome_then c.args.change.now c.requires.told (λ change asks.
+    subst (λ (t : TallyRecord). ToldButAt change.entries a t.entries c.sent.result.now.entries x) (sym c.got-2.ensures.received)
+    (subst (λ (g : TallyRecord). ToldButAt change.entries a d.incoming.received.entries g.entries x) (sym c.sent.ensures) (asks old on)))
 
 pub returns : goal.returns
 returns c =

@@ -24,7 +24,7 @@ pub adopt_report-requires-clause-due : goal.adopt_report-requires-clause-due
 adopt_report-requires-clause-due c = c.in_ok-heard.ensures.waits (search rules)
 
 pub finished-requires-clause-role : goal.finished-requires-clause-role
-finished-requires-clause-role c = has_role c.in_ok-news.news _ (core_of c.hear_agent.new.self) (core_of c.adopt_report.new.self) c.in_ok-heard.ensures.core.near c.in_ok-news.ensures.changes (record { told = c.in_ok-heard.ensures.core.told.told })
+finished-requires-clause-role c = has_role c.in_ok-news.news _ (core_of c.hear_agent.new.self) (core_of c.adopt_report.new.self) c.in_ok-heard.ensures.core.near c.in_ok-news.ensures.changes (record { told = c.in_ok-heard.ensures.core.told.told; credits = c.in_ok-heard.ensures.core.told.credits })
 
 pub finished-requires-clause-within : goal.finished-requires-clause-within
 finished-requires-clause-within c = c.in_ok-news.ensures.changes.within c.args.steps (c.in_ok-heard.ensures.within c.args.steps c.requires.within)

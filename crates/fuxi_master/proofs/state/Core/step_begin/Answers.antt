@@ -15,7 +15,7 @@ returns-then-self c =
     stays Begin c.args.steps x x (Refused AlreadyServing) c.requires.core c.requires.within refl (begins_refused x c.if-self.true) tt
 
 pub finished-requires-clause-role : goal.finished-requires-clause-role
-finished-requires-clause-role c = has_role c.begin-news.result _ (core_of c.args.self.now) (core_of c.begin-news.new.self) c.requires.core.near c.begin-news.ensures.changes (record { told = c.requires.core.told.told })
+finished-requires-clause-role c = has_role c.begin-news.result _ (core_of c.args.self.now) (core_of c.begin-news.new.self) c.requires.core.near c.begin-news.ensures.changes (record { told = c.requires.core.told.told; credits = c.requires.core.told.credits })
 
 pub finished-requires-clause-within : goal.finished-requires-clause-within
 finished-requires-clause-within c = c.begin-news.ensures.changes.within c.args.steps c.requires.within

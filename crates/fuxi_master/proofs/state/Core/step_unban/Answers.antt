@@ -8,7 +8,7 @@ use Rattle.fuxi_master.proofs.AnswersAlike.{commanded, named_by, is_done}
 use Rattle.fuxi_master.proofs.state.Core.step_unban.Goals as goal
 
 pub finished-requires-clause-role : goal.finished-requires-clause-role
-finished-requires-clause-role c = has_role c.unban-news.result _ (core_of c.args.self.now) (core_of c.unban-news.new.self) c.requires.core.near c.unban-news.ensures.changes (record { told = c.requires.core.told.told })
+finished-requires-clause-role c = has_role c.unban-news.result _ (core_of c.args.self.now) (core_of c.unban-news.new.self) c.requires.core.near c.unban-news.ensures.changes (record { told = c.requires.core.told.told; credits = c.requires.core.told.credits })
 
 pub finished-requires-clause-within : goal.finished-requires-clause-within
 finished-requires-clause-within c = c.unban-news.ensures.changes.within c.args.steps c.requires.within
