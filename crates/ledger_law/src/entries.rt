@@ -1,6 +1,7 @@
 //! Entries in the order of their keys: what stands at a key, and what a change there makes.
 
 ghost use Rattle.std.specs.Prelude.{◌≡◌, ◌+◌, ◌<◌, ◌≤◌, ◌^◌, vec_len, vec_capacity, T, Ok, Err, Some, None};
+ghost use Rattle.std.specs.List.{insert};
 ghost use Rattle.std.specs.FinMap.Entries.{is_sorted};
 ghost use Rattle.fuxi_terms.specs.Counts.{count, set_count, moved};
 ghost use Rattle.ledger_law.specs.Places.{IsPlace};
@@ -85,6 +86,25 @@ pub fn moved(n: u64, change: i64) -> Option<u64>
     }
 }
 
+// Puts an entry in at a place, where there is room.
+fn put_in<K: EntryKey>(entries: &mut Vec<(K, u64)>, at: usize, entry: (K, u64))
+    requires place { at ≤ vec_len entries.old }
+    requires room { vec_len entries.old < vec_capacity entries.old }
+    ensures items { entries.new.items ≡ insert entries.old.items at entry }
+    ensures len { vec_len entries.new ≡ vec_len entries.old + 1 }
+    ensures capacity { vec_capacity entries.old ≤ vec_capacity entries.new }
+{
+    // Behind the last entry no other one has to move.
+    if at == entries.len() {
+        entries.push_reserved(entry);
+        return;
+    }
+    match entries.insert(at, entry) {
+        Ok(()) => {}
+        Err(_) => unreachable!(),
+    }
+}
+
 /// Sets the number at a key, whose place is known. A number 0 has no entry. It takes no memory.
 pub fn set_entry<K: EntryKey>(
     entries: &mut Vec<(K, u64)>,
@@ -109,10 +129,7 @@ pub fn set_entry<K: EntryKey>(
         }
         Err(at) => {
             if n > 0 {
-                match entries.insert(at, (key, n)) {
-                    Ok(()) => {}
-                    Err(_) => unreachable!(),
-                }
+                put_in(entries, at, (key, n));
             }
         }
     }

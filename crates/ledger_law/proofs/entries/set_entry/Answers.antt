@@ -12,9 +12,9 @@ returns-else-n-eq0-clause-items g c =
     let more : 0 < c.args.n = omega arith in
     sym (set_here g.met.K.Ord.total c.args.key g.met.K.EntryKey.exact c.args.n c.args.entries.now.items c.in-Ok.at more c.requires.sorted (subst (IsPlace g.K.Ord.cmp c.args.entries.now.items c.args.key) c.in-Ok.is c.requires.place))
 
-pub returns-in-Ok-insert-clause-items : goal.returns-in-Ok-insert-clause-items
-returns-in-Ok-insert-clause-items g c =
-    c.in-Ok-insert.ensures.items ∙ sym (set_gap g.met.K.Ord.total c.args.key c.args.n c.args.entries.now.items c.in-Err.at c.if-n-gt0.true (subst (IsPlace g.K.Ord.cmp c.args.entries.now.items c.args.key) c.in-Err.is c.requires.place))
+pub returns-then-n-gt0-clause-items : goal.returns-then-n-gt0-clause-items
+returns-then-n-gt0-clause-items g c =
+    c.put_in.ensures.items ∙ sym (set_gap g.met.K.Ord.total c.args.key c.args.n c.args.entries.now.items c.in-Err.at c.if-n-gt0.true (subst (IsPlace g.K.Ord.cmp c.args.entries.now.items c.args.key) c.in-Err.is c.requires.place))
 
 pub returns-else-n-gt0-clause-items : goal.returns-else-n-gt0-clause-items
 returns-else-n-gt0-clause-items g c =
