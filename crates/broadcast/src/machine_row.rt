@@ -74,7 +74,8 @@ fn row_change(
     ensures { IfOk result (λ change. change ≡ moves row_cmp row.now (map numbered numbers.now)) }
 {
     let _len = row.len();
-    let mut change = RowChange::new(alloc);
+    // There is room for each of the numbers, so that the change does not grow.
+    let mut change = RowChange::with_room(alloc, numbers.len())?;
     for entry in numbers {
         let number = &entry.1;
         let before = row.count(number.app, number.unit, &number.size);

@@ -1,6 +1,6 @@
 //! The ledger of a machine's grants, and the changes to it.
 
-ghost use Rattle.std.specs.Prelude.{◌≡◌, ◌↔◌, ◌≤◌, ◌<◌, ◌++◌, ◌∷◌, [], T, IsTrue, false, nat_eq, ℕ, List, length, unsigned_abs, OnOk, OnErr, Some, slice_get};
+ghost use Rattle.std.specs.Prelude.{◌≡◌, ◌↔◌, ◌≤◌, ◌<◌, ◌++◌, ◌∷◌, [], T, IsTrue, false, nat_eq, ℕ, List, length, unsigned_abs, IfOk, OnOk, OnErr, Some, slice_get};
 ghost use Rattle.std.specs.declared.cmp.Ordering.TheVariants.{Less};
 ghost use Rattle.std.specs.List.{All, AllByRecursion};
 ghost use Rattle.fuxi_terms.specs.Keys.{RowKey as RowKeyRecord, row_cmp};
@@ -78,6 +78,15 @@ impl RowChange {
         RowChange {
             entries: Vec::new(alloc),
         }
+    }
+
+    /// No change, with room for at least `n`.
+    pub fn with_room(alloc: Global, n: usize) -> Result<RowChange, OutOfMemory>
+        ensures { IfOk result (λ change. change ≡ []) }
+    {
+        Ok(RowChange {
+            entries: Vec::with_capacity(alloc, n)?,
+        })
     }
 
     /// One change more, behind the others. Want of memory leaves them as they were.
