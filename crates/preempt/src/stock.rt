@@ -107,7 +107,8 @@ pub(crate) fn entries_on<'a>(
     requires machine { machine.0 < length table.now.cluster.machines }
     ensures { IfOk result (λ entries. IsWalked table.now machine.0 entries.items) }
 {
-    let mut entries = Vec::with_capacity(alloc, 8)?;
+    // No machine has grants of more units, so the list does not grow.
+    let mut entries = Vec::with_capacity(alloc, stock.holders.len())?;
     list_machine(&mut entries, stock.holders, stock.counts, machine.0)?;
     Ok(entries)
 }
