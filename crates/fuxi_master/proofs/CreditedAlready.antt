@@ -16,7 +16,7 @@ use Rattle.fuxi_terms.specs.Keys.{key_cmp, spot_cmp}
 use Rattle.fuxi_terms.specs.Limits.{greatest_count}
 use Rattle.fuxi_terms.specs.TallyKeys.{back_key, credited_key, is_back}
 use Rattle.fuxi_terms.specs.Tables.{spot, Table}
-use Rattle.fuxi_terms.proofs.Booleans.{both_false}
+use Rattle.fuxi_terms.proofs.Booleans.{both_false, both_true}
 use Rattle.fuxi_terms.proofs.CountsLemmas.{both_true as both_hold, lesser, tied}
 use Rattle.fuxi_terms.proofs.KeyOrders.{key_total, same_key, spot_total, same_spot}
 use Rattle.fuxi_terms.proofs.NumbersSetLemmas.{set_same}
@@ -123,16 +123,12 @@ paid_stays a c units cs given (e ∷ es) table counts agree h = elim (is_there c
   | false ↦ λ _. paid_stays a c units cs given es table counts agree h.1
 ] refl
   where
-    both : (x y : Bool) → (x && y) ≡ true → (x ≡ true) × (y ≡ true)
-    both true y e = (refl, e)
-    both false y e = cc
-
     by : (b : Bool) → is_back e.0 ≡ b → is_there c units e.0 ≡ true
         → cond b (set_count spot_cmp table (spot a e.0.unit e.0.number) (count spot_cmp table (spot a e.0.unit e.0.number) - min (e.1 - count key_cmp cs (credited_key e.0.unit e.0.number)) (count spot_cmp table (spot a e.0.unit e.0.number)))) table ≡ table
     by false back there = refl
     by true back there =
         let s = spot a e.0.unit e.0.number in
-        let parts = both (nat_lt e.0.unit units) (has_machine c e.0.number) (sym (back_there c units e.0 back) ∙ there) in
+        let parts = both_true (nat_lt e.0.unit units) (has_machine c e.0.number) (sym (back_there c units e.0 back) ∙ there) in
         let paid = h.0 back parts.0 parts.1 in
         let shown = agree e.0.unit e.0.number in
         let level : count spot_cmp table s - min (e.1 - count key_cmp cs (credited_key e.0.unit e.0.number)) (count spot_cmp table s) ≡ count spot_cmp table s = omega (arith, paid, shown) in

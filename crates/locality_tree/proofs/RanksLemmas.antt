@@ -6,7 +6,7 @@ use Rattle.fuxi_terms.proofs.Members.{In}
 use Rattle.wait_queue.specs.declared.node.Entry.{Entry}
 use Rattle.wait_queue.specs.Queues.{Item, is_before, AreBehind, IsInOrder}
 use Rattle.locality_tree.specs.Trees.{RankedEntry, ranks_before, IsRanked}
-use Rattle.locality_tree.specs.Paths.{IsRanking}
+use Rattle.locality_tree.specs.Paths.{IsRanking, with_levels}
 use Rattle.locality_tree.proofs.MembersLemmas.{in_middle, in_wider, in_here, all_in, all_from}
 
 pub not_itself : (p : RankedEntry) → ranks_before p p ≡ true → ⊥
@@ -120,11 +120,6 @@ put_ranked p (q ∷ qs) r d = on (ranks_before p q) refl (put_ranked p qs r.1 d.
           ]),
           rest,
         )
-
--- every entry of a queue, each with its level
-abbrev pub with_levels : (Entry → ℕ) → List Item → List RankedEntry
-with_levels level [] = []
-with_levels level (i ∷ is) = (i.1, level i.1) ∷ with_levels level is
 
 one_ranks : (a b : Entry) (l k : ℕ) → is_before true a b ≡ true → AreComparable (a, l) (b, k)
 one_ranks a b l k h = by (nat_eq a.priority b.priority) refl (nat_lt k l) refl

@@ -1,4 +1,4 @@
--- What a tree holds after one unit of it begins to wait, waits no more, or stands in other queues.
+-- What a tree holds after one unit of it begins to wait, waits no more, or stands elsewhere.
 use Rattle.std.proofs.Common.{◌≡◌, ◌≢◌, ℕ, zero, suc, ◌+◌, ◌*◌, ◌<◌, Bool, true, false, cond, nat_eq, nat_lt, List, [], ◌∷◌, Option, Some, None, length, take, get_or, set, slice_get, refl, sym, ap, subst, ◌∙◌, inl, inr, arith, length-set}
 use Rattle.std.specs.Prelude.{◌&&◌, ◌||◌, ◌/◌, ◌%◌}
 use Rattle.std.proofs.lemmas.Bool.{cases_eq, cases_lt}
@@ -41,7 +41,7 @@ apart_when waits p q w n = elim (same_pair q p) as (λ t. same_pair q p ≡ t �
   | false ↦ λ _. refl
 ] refl
 
--- a unit that has a place for each queue is one of the tree
+-- a unit that has all places is one of the tree
 pub within_places : (t : TreeRecord) (n : ℕ) → length (get_or t.units n no_unit).stands ≡ place_count t.racks → n < length t.units
 within_places t n e = elim (cases_lt n (length t.units)) [
   | inl lt ↦ lt
@@ -104,7 +104,7 @@ module _ (t t' : TreeRecord) (a u : ℕ) (s : UnitState) (is : t' ≡ record t {
         | false ↦ λ x. h.few b v (sym (same b v x) ∙ w)
       ] refl
 
--- ---- a unit stands in other queues
+-- ---- a unit stands elsewhere
 pub restood_self : (n : ℕ) (t : TreeRecord) → Restood n t t
 restood_self n t = record { racks = refl; count = refl; entries = λ k. refl; widths = λ k. refl; others = λ k d. refl }
 
@@ -276,7 +276,7 @@ module _ (c : ClusterRecord) (cells : List (List Cell)) (waits now : Pair → Bo
   pub begun_others : t' ≡ refreshed t (entry_for cells turns a u) true → (b v : ℕ) → v < 8 → same_pair (b, v) (a, u) ≡ false → unit_at t' b v ≡ unit_at t b v
   begun_others is b v lv f = unit_there t t' a u begun_state is (within_places t (unit_number a u) width) (unit_number b v) (numbers_apart a u b v lu lv f)
 
-  -- a unit that did not wait stood in no queue, and now stands in that of the cluster alone
+  -- a unit that did not wait stood nowhere, and now stands at the cluster's place alone
   pub begun_nowhere : waits (a, u) ≡ false → t' ≡ refreshed t (entry_for cells turns a u) true → (place : ℕ) → place < cluster_place t.racks → get_or (unit_at t' a u).stands place false ≡ false
   begun_nowhere none is place lt =
       let d : place ≢ cluster_place t.racks = omega (arith, lt) in

@@ -1,4 +1,4 @@
--- The queues of units that wait, of which a demand's changes are told one by one.
+-- Where units that wait stand, of which a demand's changes are told one by one.
 use Rattle.std.proofs.Common.{◌≡◌, ℕ, ◌<◌, ◌≤◌, true, false, nat_lt, List, [], length, get_or, set, refl, sym, ◌∙◌, ap, subst, arith, inl, inr}
 use Rattle.std.proofs.lemmas.Bool.{cases_lt}
 use Rattle.fuxi_terms.specs.Cluster.{ClusterRecord}
@@ -45,7 +45,7 @@ stands_on_at c cells es a k t t' racks same h = record {
   racks = λ w lt. (λ i. get_or (same i).stands (rack_place (racks i) k.number) false) ∙ h.racks w lt;
 }
 
--- a place of no queue, or of one that is not there
+-- a place of no machine and no rack, or of one that is not there
 pub stood_same : (c : ClusterRecord) (cells : List (List Cell)) (es : Table) (a : ℕ) (k : Key) (t t' : TreeRecord) → t' ≡ t → (k.what ≡ 2 → length c.machines ≤ k.number) → (k.what ≡ 3 → 64 ≤ k.number) → StoodAt c cells es a k t t'
 stood_same c cells es a k t t' is near racks = subst (StoodAt c cells es a k t) (sym is) (record {
   restood = restood_self (unit_number a k.unit) t;

@@ -1,4 +1,4 @@
--- What the tree of a placer holds: which units wait in it, and in which queues they stand.
+-- What the tree of a placer holds: which units wait in it, and where they stand.
 use Rattle.std.specs.Prelude.{◌≡◌, ◌≢◌, ℕ, ◌<◌, Bool, true, false, cond, nat_lt, List, [], length, Some, None}
 use Rattle.std.proofs.Common.{get_or}
 use Rattle.fuxi_terms.specs.Cluster.{ClusterRecord}
@@ -22,8 +22,8 @@ is_unmet_on cells es a u m = nat_lt (held_on es a u m) (asks_in cells a (near_ke
 abbrev pub is_unmet_in : ClusterRecord → List (List Cell) → Table → ℕ → ℕ → ℕ → Bool
 is_unmet_in c cells es a u r = nat_lt (held_in c es a u r) (asks_in cells a (rack_key u r))
 
--- The units that are admitted have a place for each queue of the cluster. Of them exactly those that pass a test wait, each with its priority and its
--- turn, and no other stands in a queue
+-- The units that are admitted have all places of the cluster. Of them exactly those that pass a test wait, each with its priority and its
+-- turn, and no other stands anywhere
 pub record Holds (c : ClusterRecord) (cells : List (List Cell)) (waits : Pair → Bool) (turns : List ℕ) (t : TreeRecord) : Type 0 where
   pub racks : t.racks ≡ racks_of c
   pub all : length t.units ≡ all_units
@@ -37,7 +37,7 @@ pub record Holds (c : ClusterRecord) (cells : List (List Cell)) (waits : Pair �
 abbrev pub HoldsLine : ClusterRecord → List (List Cell) → List Pair → List ℕ → TreeRecord → Type 0
 HoldsLine c cells line turns t = Holds c cells (λ p. has_pair p line) turns t
 
--- a unit stands in the queue of a machine, and in that of a rack, exactly where it asks for more there than it has
+-- a unit stands on a machine, and in a rack, exactly where it asks for more there than it has
 pub record StandsAs (c : ClusterRecord) (cells : List (List Cell)) (es : Table) (a u : ℕ) (t : TreeRecord) : Type 0 where
   pub near : (m : ℕ) → m < length c.machines → get_or (unit_at t a u).stands m false ≡ is_unmet_on cells es a u m
   pub racks : (r : ℕ) → r < 64 → get_or (unit_at t a u).stands (rack_place t.racks r) false ≡ is_unmet_in c cells es a u r
@@ -52,13 +52,13 @@ pub record TreeOf (c : ClusterRecord) (cells : List (List Cell)) (line : List Pa
   pub rises : IsRising (λ (p : Pair). turn_at turns p.0 p.1) line
   pub stands : AllStand c cells es line t
 
--- a unit waits with this entry in the tree of a cluster, where it has a place for each queue
+-- a unit waits with this entry in the tree of a cluster, where it has all places
 pub record WaitsIn (c : ClusterRecord) (e : Entry) (t : TreeRecord) : Type 0 where
   pub racks : t.racks ≡ racks_of c
   pub entry : (unit_at t e.app.0 e.unit.0).entry ≡ Some e
   pub places : length (unit_at t e.app.0 e.unit.0).stands ≡ place_count t.racks
 
--- nothing changes but in which queues one unit stands
+-- nothing changes but where one unit stands
 pub record Restood (n : ℕ) (before after : TreeRecord) : Type 0 where
   pub racks : after.racks ≡ before.racks
   pub count : length after.units ≡ length before.units

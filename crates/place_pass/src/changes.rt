@@ -197,7 +197,7 @@ pub(crate) fn mark_changes(
     }
 }
 
-// A unit that waits stands in the queue of a machine where it asks for more there than it has. One that is not there is passed.
+// A unit that waits stands on a machine where it asks for more there than it has. One that is not there is passed.
 fn stand_on(tree: &mut Tree, entry: &Entry, wishes: &Wishes, table: &GrantTable, number: u32)
     requires cluster { wishes.now.cluster ≡ table.now.cluster }
     requires here { entry.now.unit.0 < length (get_or wishes.now.cells entry.now.app.0 []) }

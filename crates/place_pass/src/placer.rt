@@ -348,7 +348,7 @@ impl Placer {
     }
 
     /// The tree of the waiting pairs. In it exactly the pairs of the line wait, each with its priority and its turn, and
-    /// stand in the queue of each machine and rack where they ask for more than they have.
+    /// stand on each machine and in each rack where they ask for more than they have.
     pub fn tree(&self, table: &GrantTable) -> &Tree
         requires level { IsLevelWith self.now table.now }
         requires up { IsUpToDate self.now.seen table.now }

@@ -57,6 +57,10 @@ pub(crate) fn first_some(numbers: &[u32], from: u32, end: u32) -> u32
     ensures some { result < end → 0 < get_or numbers.now result 0 }
     ensures passed { (k : ℕ) → from ≤ k → k < result → get_or numbers.now k 0 ≡ 0 }
 {
+    // Where one has a number its neighbour often has one too.
+    if from < end && numbers[from as usize] > 0 {
+        return from;
+    }
     for place in behind_clear(numbers, from, end)..end {
         if numbers[place as usize] > 0 {
             return place;

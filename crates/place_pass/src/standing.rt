@@ -1,4 +1,4 @@
-//! The tree of the waiting pairs: who waits in it, and in which queues. No call takes memory.
+//! The tree of the waiting pairs: who waits in it, and where they stand. No call takes memory.
 
 ghost use Rattle.std.specs.Prelude.{◌≡◌, ℕ, ◌<◌, ◌≤◌, ◌||◌, nat_lt, nat_eq, [], Some, true, false, length, take};
 ghost use Rattle.std.proofs.Common.{get_or};
@@ -85,7 +85,7 @@ pub(crate) fn entry_for(wishes: &Wishes, turn_of: &Vec<u64>, app: AppNo, unit: U
     }
 }
 
-// Whether a unit asks for a machine or stands in its queue.
+// Whether a unit asks for a machine or stands there.
 fn asks_or_stands_on(tree: &Tree, entry: &Entry, wish: &Wish, machine: MachineNo) -> bool
     requires waits { (unit_at tree.now entry.now.app.0 entry.now.unit.0).entry ≡ Some entry.now }
     requires machine { machine.0 < length tree.now.racks }
@@ -99,7 +99,7 @@ fn asks_or_stands_on(tree: &Tree, entry: &Entry, wish: &Wish, machine: MachineNo
     tree.stands_on(entry, machine)
 }
 
-// Whether a unit asks for a rack or stands in its queue.
+// Whether a unit asks for a rack or stands there.
 fn asks_or_stands_within(tree: &Tree, entry: &Entry, wish: &Wish, rack: RackNo) -> bool
     requires waits { (unit_at tree.now entry.now.app.0 entry.now.unit.0).entry ≡ Some entry.now }
     requires rack { rack.0 < 64 }
@@ -112,7 +112,7 @@ fn asks_or_stands_within(tree: &Tree, entry: &Entry, wish: &Wish, rack: RackNo) 
     tree.stands_within(entry, rack)
 }
 
-// A unit that waits stands in a machine's queue exactly where something of it is unmet there. Mostly it stands as it has to.
+// A unit that waits stands on a machine exactly where something of it is unmet there. Mostly it stands as it has to.
 fn turn_on(tree: &mut Tree, entry: &Entry, machine: MachineNo, unmet: bool)
     requires waits { (unit_at tree.old entry.now.app.0 entry.now.unit.0).entry ≡ Some entry.now }
     requires machine { machine.0 < length tree.old.racks }
@@ -136,7 +136,7 @@ fn turn_within(tree: &mut Tree, entry: &Entry, rack: RackNo, unmet: bool)
     tree.mark_rack(entry, rack, unmet);
 }
 
-// A unit that waits and does not stand in a machine's queue enters it where something of it is unmet there.
+// A unit that waits and does not stand on a machine comes to stand there where something of it is unmet.
 fn enter_on(tree: &mut Tree, entry: &Entry, machine: MachineNo, unmet: bool)
     requires waits { (unit_at tree.old entry.now.app.0 entry.now.unit.0).entry ≡ Some entry.now }
     requires machine { machine.0 < length tree.old.racks }
@@ -162,8 +162,8 @@ fn enter_within(tree: &mut Tree, entry: &Entry, rack: RackNo, unmet: bool)
     tree.mark_rack(entry, rack, true);
 }
 
-// A unit that waits stands in the queues of the machines on which it asks for more than it has: only those for which it asks, and those in
-// whose queues it stands, need a look.
+// A unit that waits stands on the machines on which it asks for more than it has: only those for which it asks, and those on which it
+// stands, need a look.
 fn mark_machines(tree: &mut Tree, entry: &Entry, wishes: &Wishes, table: &GrantTable)
     requires cluster { wishes.now.cluster ≡ table.now.cluster }
     requires here { entry.now.unit.0 < length (get_or wishes.now.cells entry.now.app.0 []) }
@@ -184,8 +184,8 @@ fn mark_machines(tree: &mut Tree, entry: &Entry, wishes: &Wishes, table: &GrantT
     }
 }
 
-// A unit that waits stands in the queues of the racks in which it asks for more than it has: only those for which it asks, and those in
-// whose queues it stands, need a look.
+// A unit that waits stands in the racks in which it asks for more than it has: only those for which it asks, and those in which it stands,
+// need a look.
 fn mark_racks(tree: &mut Tree, entry: &Entry, wishes: &Wishes, table: &GrantTable)
     requires cluster { wishes.now.cluster ≡ table.now.cluster }
     requires here { entry.now.unit.0 < length (get_or wishes.now.cells entry.now.app.0 []) }
@@ -206,7 +206,7 @@ fn mark_racks(tree: &mut Tree, entry: &Entry, wishes: &Wishes, table: &GrantTabl
     }
 }
 
-// A unit that waits stands in the queues where it asks for more than it has.
+// A unit that waits stands where it asks for more than it has.
 fn mark_unit(tree: &mut Tree, entry: &Entry, wishes: &Wishes, table: &GrantTable)
     requires cluster { wishes.now.cluster ≡ table.now.cluster }
     requires here { entry.now.unit.0 < length (get_or wishes.now.cells entry.now.app.0 []) }
@@ -219,7 +219,7 @@ fn mark_unit(tree: &mut Tree, entry: &Entry, wishes: &Wishes, table: &GrantTable
     mark_racks(tree, entry, wishes, table);
 }
 
-// A unit that begins to wait enters the queues of the machines on which it asks for more than it has. It stands in none of them yet, so
+// A unit that begins to wait comes to stand on the machines on which it asks for more than it has. It stands on none of them yet, so
 // only those for which it asks need a look.
 fn enter_machines(tree: &mut Tree, entry: &Entry, wishes: &Wishes, table: &GrantTable)
     requires cluster { wishes.now.cluster ≡ table.now.cluster }
@@ -231,14 +231,14 @@ fn enter_machines(tree: &mut Tree, entry: &Entry, wishes: &Wishes, table: &Grant
     ensures near { (m : ℕ) → m < length wishes.now.cluster.machines → get_or (unit_at tree.new entry.now.app.0 entry.now.unit.0).stands m false ≡ is_unmet_on wishes.now.cells table.now.entries entry.now.app.0 entry.now.unit.0 m }
     ensures rest { (place : ℕ) → length wishes.now.cluster.machines ≤ place → get_or (unit_at tree.new entry.now.app.0 entry.now.unit.0).stands place false ≡ get_or (unit_at tree.old entry.now.app.0 entry.now.unit.0).stands place false }
 {
-    let wish = wishes.wish(entry.app, entry.unit);
+    let near = wishes.wish(entry.app, entry.unit).near();
+    let held = table.counts(entry.app, entry.unit);
     let machines = wishes.cluster().machines();
-    let mut number = first_some(wish.near(), 0, machines);
+    let mut number = first_some(near, 0, machines);
     while number < machines {
-        let machine = MachineNo(number);
-        let unmet = wishes.is_unmet_on(table, entry.app, entry.unit, machine);
-        enter_on(tree, entry, machine, unmet);
-        number = first_some(wish.near(), number + 1, machines);
+        let unmet = held[number as usize] < near[number as usize];
+        enter_on(tree, entry, MachineNo(number), unmet);
+        number = first_some(near, number + 1, machines);
     }
 }
 
@@ -263,7 +263,7 @@ fn enter_racks(tree: &mut Tree, entry: &Entry, wishes: &Wishes, table: &GrantTab
     }
 }
 
-// A unit that begins to wait enters the queues where it asks for more than it has. It stands in none of them yet.
+// A unit that begins to wait comes to stand where it asks for more than it has. It stands nowhere yet.
 fn enter_unit(tree: &mut Tree, entry: &Entry, wishes: &Wishes, table: &GrantTable)
     requires cluster { wishes.now.cluster ≡ table.now.cluster }
     requires here { entry.now.unit.0 < length (get_or wishes.now.cells entry.now.app.0 []) }
@@ -277,7 +277,7 @@ fn enter_unit(tree: &mut Tree, entry: &Entry, wishes: &Wishes, table: &GrantTabl
     enter_racks(tree, entry, wishes, table);
 }
 
-// A unit that waits stands in the queues of one machine and of its rack where it asks for more there than it has.
+// A unit that waits stands on one machine and in its rack where it asks for more there than it has.
 fn mark_spot(
     tree: &mut Tree,
     entry: &Entry,
@@ -300,7 +300,7 @@ fn mark_spot(
     turn_within(tree, entry, rack, in_rack);
 }
 
-/// Told that a unit has another number on a machine: where it waits it stands in the queues of the machine and of its rack where it asks
+/// Told that a unit has another number on a machine: where it waits it stands on the machine and in its rack where it asks
 /// for more there.
 pub(crate) fn tell_spot(
     tree: &mut Tree,

@@ -23,7 +23,7 @@ pub struct Queue {
     ends: [Option<Slot>; BANDS],
 }
 
-// There may be one for each machine of a cluster, so what it takes is known.
+// Most of it is for the ends of the bands.
 const _: () = prove!(size_of::<Queue>() == 272);
 
 impl Queue {

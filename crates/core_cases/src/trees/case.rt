@@ -135,7 +135,7 @@ impl Case {
         }
     }
 
-    /// The unit of the job waits, and stands in the queue of the machine or does not.
+    /// The unit of the job waits, and stands on the machine or does not.
     pub fn near(&mut self, index: usize, machine: u32, unmet: bool) {
         if index < self.priorities.len() && machine < self.machines {
             let entry = entry_of(&self.priorities, index);
@@ -144,7 +144,7 @@ impl Case {
         }
     }
 
-    /// The unit of the job waits, and stands in the queue of the rack or does not.
+    /// The unit of the job waits, and stands in the rack or does not.
     pub fn rack(&mut self, index: usize, rack: u32, unmet: bool) {
         if index < self.priorities.len() && rack < 64 {
             let entry = entry_of(&self.priorities, index);

@@ -63,7 +63,7 @@ enter_unit-requires-clause-waits c =
     (here_at c.cluster-wishes.ensures.sound c.args.line.now.pairs c.requires.admitted c.loop-place.place c.at.ensures))
 
 pub enter_unit-requires-clause-nowhere : goal.enter_unit-requires-clause-nowhere
-enter_unit-requires-clause-nowhere c queue lt =
+enter_unit-requires-clause-nowhere c at_place lt =
     let w = c.args.wishes.now in
     let line = c.args.line.now.pairs in
     let place = c.loop-place.place in
@@ -75,10 +75,10 @@ enter_unit-requires-clause-nowhere c queue lt =
       | true ↦ λ x. let less = turn_before f line place q q c.requires.rises c.at.ensures x in absurd (omega (arith, less))
       | false ↦ λ _. refl
     ] refl in
-    subst (λ (e : Entry). get_or (unit_at c.refresh.new.self e.app.0 e.unit.0).stands queue false ≡ false) (sym c.entry_for-entry.ensures)
+    subst (λ (e : Entry). get_or (unit_at c.refresh.new.self e.app.0 e.unit.0).stands at_place false ≡ false) (sym c.entry_for-entry.ensures)
     (begun_nowhere w.cluster w.cells (λ p. has_pair p (take place line)) (λ p. has_pair p (take (place + 1) line)) c.args.turn_of.now.items t c.refresh.new.self q.0 q.1 c.loop-place.invariant.holds
     (placed_at c.cluster-wishes.ensures.sound line c.requires.admitted place c.at.ensures).1 (here_at c.cluster-wishes.ensures.sound line c.requires.admitted place c.at.ensures)
-    (λ b v g. has_other line place q (b, v) c.at.ensures g) new made queue (subst (λ rs. queue < cluster_place rs) (ap (λ (x : TreeRecord). x.racks) made) lt))
+    (λ b v g. has_other line place q (b, v) c.at.ensures g) new made at_place (subst (λ rs. at_place < cluster_place rs) (ap (λ (x : TreeRecord). x.racks) made) lt))
 
 pub loop-place-preserved : goal.loop-place-preserved
 loop-place-preserved c =

@@ -27,7 +27,9 @@ loop-number-preserved c =
     let n = c.loop-number.number in
     let t = c.loop-number.tree in
     let t' = c.enter_on.new.tree in
-    let unmet = c.is_unmet_on-unmet.result in
+    let unmet = nat_lt (get_or c.counts-held.result.now n 0) (get_or c.near-near.result.now n 0) in
+    let unmet_is : unmet ≡ is_unmet_on w.cells es e.app.0 e.unit.0 n =
+    ap (λ h. nat_lt h (get_or c.near-near.result.now n 0)) (c.counts-held.ensures.is n) ∙ ap (λ ns. nat_lt (held_on es e.app.0 e.unit.0 n) (get_or ns n 0)) c.near-near.ensures ∙ ap (λ (x : Cell). nat_lt (held_on es e.app.0 e.unit.0 n) (get_or x.near n 0)) c.wish.ensures.cell in
     let i = c.loop-number.invariant in
     let test = c.loop-number-test.true in
     let end = c.machines-machines.ensures.number in
@@ -43,12 +45,12 @@ loop-number-preserved c =
       restood = restood_then (unit_number e.app.0 e.unit.0) c.args.tree.now t t' i.restood (marked w.cluster t t' e n unmet i.waits c.enter_on.ensures);
       waits = marked_waits w.cluster t t' e n unmet i.waits c.enter_on.ensures;
       near = λ m lt. elim (cases_eq m n) as (λ _. get_or (unit_at t' e.app.0 e.unit.0).stands m false ≡ is_unmet_on w.cells es e.app.0 e.unit.0 m) [
-        | inl q ↦ subst (λ j. get_or (unit_at t' e.app.0 e.unit.0).stands j false ≡ is_unmet_on w.cells es e.app.0 e.unit.0 j) (sym q) (marked_here w.cluster t t' e n unmet i.waits c.enter_on.ensures within n refl ∙ c.is_unmet_on-unmet.ensures)
+        | inl q ↦ subst (λ j. get_or (unit_at t' e.app.0 e.unit.0).stands j false ≡ is_unmet_on w.cells es e.app.0 e.unit.0 j) (sym q) (marked_here w.cluster t t' e n unmet i.waits c.enter_on.ensures within n refl ∙ unmet_is)
         | inr d ↦ apart m d ∙ elim (cases_lt m n) as (λ _. get_or (unit_at t e.app.0 e.unit.0).stands m false ≡ is_unmet_on w.cells es e.app.0 e.unit.0 m) [
           | inl less ↦ i.near m less
           | inr ge ↦
               let asked = asks_in w.cells e.app.0 (near_key e.unit.0 m) in
-              let none : asked ≡ 0 = ap (λ (x : Cell). get_or x.near m 0) (sym c.wish-wish.ensures.cell) ∙ ap (λ ns. get_or ns m 0) (sym c.near-in-loop-number.ensures) ∙ next.passed m (omega (arith, ge, d)) lt in
+              let none : asked ≡ 0 = ap (λ (x : Cell). get_or x.near m 0) (sym c.wish.ensures.cell) ∙ ap (λ ns. get_or ns m 0) (sym c.near-near.ensures) ∙ next.passed m (omega (arith, ge, d)) lt in
               let stands = i.ahead m (omega (arith, ge)) ∙ c.requires.nowhere m (omega (arith, lt, last, end, k)) in
               stands_unasked asked (held_on es e.app.0 e.unit.0 m) (get_or (unit_at t e.app.0 e.unit.0).stands m false) (λ j. nat_lt 0 (none j) || stands j)
         ]

@@ -39,7 +39,7 @@ asks_or_stands_on-requires-clause-near c =
     let n = ap (λ (x : Cell). length x.near) c.wish-wish.ensures.cell in
     omega (arith, t, e, k, w, n)
 
--- a machine for which it does not ask, and in whose queue it does not stand, is passed
+-- a machine for which it does not ask, and on which it does not stand, is passed
 pub loop-number-preserved-then-not-asks_or_stands_on : goal.loop-number-preserved-then-not-asks_or_stands_on
 loop-number-preserved-then-not-asks_or_stands_on c =
     let w = c.args.wishes.now in

@@ -28,7 +28,7 @@ asks_or_stands_within-requires-clause-racks c =
     let n = ap (λ (x : Cell). length x.racks) c.wish-wish.ensures.cell in
     omega (arith, t, w, n)
 
--- a rack for which it does not ask, and in whose queue it does not stand, is passed
+-- a rack for which it does not ask, and in which it does not stand, is passed
 pub loop-number-preserved-then-not-asks_or_stands_within : goal.loop-number-preserved-then-not-asks_or_stands_within
 loop-number-preserved-then-not-asks_or_stands_within c =
     let w = c.args.wishes.now in
