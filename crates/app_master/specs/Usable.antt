@@ -1,5 +1,5 @@
 -- What an application holds and may give back, of its two tallies.
-use Rattle.std.specs.Prelude.{◌≡◌, ℕ, ◌<◌, ◌≤◌, Bool, List, [], Option, Some, None, cond}
+use Rattle.std.specs.Prelude.{◌≡◌, ℕ, ◌<◌, ◌≤◌, Bool, List, [], ◌∷◌, replicate, Option, Some, None, cond}
 use Rattle.std.proofs.Common.{get_or}
 use Rattle.fuxi_terms.specs.Tallies.{TallyRecord}
 use Rattle.schedule_unit.specs.declared.party.MachineNo.{MachineNo}
@@ -12,6 +12,11 @@ is_named grants m = names (tally_of grants) m
 
 abbrev pub usable_in : TallyRecord → TallyRecord → ℕ → ℕ → ℕ → ℕ
 usable_in grants demand boot u m = usable_of (tally_of grants) (tally_of demand) boot u m
+
+-- counts by machine and unit, where there are none yet
+abbrev pub filled_up : ℕ → List (List ℕ) → List (List ℕ)
+filled_up machines [] = replicate machines (replicate 8 0)
+filled_up machines (x ∷ xs) = x ∷ xs
 
 -- what is carried of a unit on a machine, of counts by machine and unit
 abbrev pub carried_at : List (List ℕ) → ℕ → ℕ → ℕ

@@ -90,7 +90,7 @@ impl AppMaster {
             units,
             machines,
             racks: racks_of(cluster),
-            carried: Carried::nothing(alloc, machines)?,
+            carried: Carried::nothing(alloc, machines),
             up: Side::start(alloc, boot)?,
             steps: 0,
         };
@@ -491,8 +491,13 @@ impl Core {
         if packet.from.inc <= self.up.peer() {
             return self.up.hear(alloc, packet, &NoLimit, &mut ());
         }
-        self.carried
-            .join(self.up.got(), self.up.sent(), self.up.own(), self.units);
+        self.carried.join(
+            alloc,
+            self.up.got(),
+            self.up.sent(),
+            self.up.own(),
+            self.units,
+        )?;
         let heard = self.up.hear(alloc, packet, &NoLimit, &mut ())?;
         join(&mut self.up, alloc, packet.from.inc)?;
         Ok(heard)

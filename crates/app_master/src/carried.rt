@@ -1,6 +1,6 @@
 //! What an application carries from epoch to epoch.
 
-ghost use Rattle.std.specs.Prelude.{◌≡◌, ℕ, ◌<◌, ◌≤◌, ◌&&◌, cond, length, replicate, nat_eq, nat_lt, IfOk};
+ghost use Rattle.std.specs.Prelude.{◌≡◌, ℕ, ◌<◌, ◌≤◌, ◌&&◌, cond, length, replicate, nat_eq, nat_lt, OnOk, OnErr};
 ghost use Rattle.fuxi_terms.specs.Counts.{AreCounts, count};
 ghost use Rattle.fuxi_terms.specs.Keys.{key_cmp};
 ghost use Rattle.fuxi_terms.specs.TallyKeys.{reported_key, count_key, greatest_grant};
@@ -19,25 +19,31 @@ use std::marker::Model;
 /// How many grants are carried, by machine and unit.
 #[derive(Drop)]
 pub(crate) struct Carried {
+    machines: u32,
+    /// None before an epoch is joined in which something was granted, since most applications know one master alone.
     counts: Vec<[u32; MOST_UNITS]>,
 }
 
 impl Model for Carried {
-    ghost use Rattle.std.specs.Prelude.{ℕ, List};
+    ghost use Rattle.std.specs.Prelude.{◌≡◌, ◌⊎◌, ℕ, List, [], length};
+    ghost use Rattle.app_master.specs.Usable.{filled_up};
 
     ghost Value = { List (List ℕ) };
 
-    ghost view = { λ c. c.counts.items };
+    ghost view = { λ c. filled_up c.machines c.counts.items };
+
+    ghost invariant = { λ c. (c.counts.items ≡ []) ⊎ (length c.counts.items ≡ c.machines) };
 }
 
 impl Carried {
     /// Nothing, on each of so many machines.
-    pub(crate) fn nothing(alloc: Global, machines: u32) -> Result<Carried, OutOfMemory>
-        ensures { IfOk result (λ carried. carried ≡ replicate machines (replicate 8 0)) }
+    pub(crate) fn nothing(alloc: Global, machines: u32) -> Carried
+        ensures { result ≡ replicate machines (replicate 8 0) }
     {
-        Ok(Carried {
-            counts: Vec::from_elem(alloc, [0; MOST_UNITS], machines as usize)?,
-        })
+        Carried {
+            machines,
+            counts: Vec::new(alloc),
+        }
     }
 
     /// How many grants of a unit are carried on a machine.
@@ -46,6 +52,9 @@ impl Carried {
         requires machine { machine.0 < length self.now }
         ensures { result ≡ carried_at self.now unit.0 machine.0 }
     {
+        if self.counts.is_empty() {
+            return 0;
+        }
         self.counts[machine.0 as usize][unit.0 as usize]
     }
 
@@ -64,13 +73,29 @@ impl Carried {
         end
     }
 
-    /// An epoch is joined: on each machine that the grants name what was held there is carried from now on.
-    pub(crate) fn join(&mut self, grants: &Grants, demand: &Demand, boot: u64, units: u8)
+    /// An epoch is joined: on each machine that the grants name what was held there is carried from now on. Want of memory
+    /// leaves all as it was.
+    pub(crate) fn join(
+        &mut self,
+        alloc: Global,
+        grants: &Grants,
+        demand: &Demand,
+        boot: u64,
+        units: u8,
+    ) -> Result<(), OutOfMemory>
         requires { units ≤ 8 }
-        ensures long { length self.new ≡ length self.old }
-        ensures counts { (u m : ℕ) → u < units → m < length self.old → carried_at self.new u m ≡ cond (is_named grants.now m) (usable_in grants.now demand.now boot u m) (carried_at self.old u m) }
+        ensures long { OnOk result (length self.new ≡ length self.old) }
+        ensures counts { OnOk result ((u m : ℕ) → u < units → m < length self.old → carried_at self.new u m ≡ cond (is_named grants.now m) (usable_in grants.now demand.now boot u m) (carried_at self.old u m)) }
+        ensures err { OnErr result (self.new ≡ self.old) }
     {
+        if self.counts.is_empty() {
+            if grants.entries().is_empty() {
+                return Ok(());
+            }
+            self.counts = Vec::from_elem(alloc, [0; MOST_UNITS], self.machines as usize)?;
+        }
         carry(&mut self.counts, grants, demand, boot, units);
+        Ok(())
     }
 }
 

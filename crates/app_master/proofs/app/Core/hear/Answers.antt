@@ -31,9 +31,9 @@ returns-clause-hears c = λ r s.
     let side = hears_side (app_party r) true no_excess r.up (parcel_is x) in
     let fresh : side.fresh ≡ true = sym h.fresh ∙ c.in_ok-heard.ensures.fresh ∙ (let p = c.peer.ensures in let gt = c.if-packet-peer.false in grind (arith, nat_tests, p, gt)) in
     let posted : IsUp c.join-2.new.up r.boot (appended false (joined_demand (parcel_is x).packet.from.inc (shown r.up)) side.side) =
-    subst (λ d. IsUp c.join-2.new.up r.boot (appended false (joined_demand (parcel_is x).packet.from.inc d) side.side)) (h.side.shown ∙ ap (λ (o : Sending TallyRecord ChangeRecord). tally_of o.present) c.in_ok-heard.ensures.outgoing ∙ sym t.up.shown) (c.in_ok-join.ensures.joins r.boot side.side h.side) in
+    subst (λ d. IsUp c.join-2.new.up r.boot (appended false (joined_demand (parcel_is x).packet.from.inc d) side.side)) (h.side.shown ∙ ap (λ (o : Sending TallyRecord ChangeRecord). tally_of o.present) c.in_ok-heard.ensures.outgoing ∙ sym t.up.shown) (c.in_ok-join-2.ensures.joins r.boot side.side h.side) in
     let counts : (u m : ℕ) → u < i.units → m < i.machines → carried_at c.join.new.self u m ≡ cond (is_named i.up.incoming.received m) (usable_in i.up.incoming.received i.up.outgoing.present i.up.outgoing.own u m) (carried_at i.carried u m)
-    = λ u m lu lm. c.join.ensures.counts u m lu (subst (λ n. m < n) (sym c.requires.core.carried) lm)
+    = λ u m lu lm. c.in_ok-join.ensures.counts u m lu (subst (λ n. m < n) (sym c.requires.core.carried) lm)
     ∙ (λ j. cond (is_named (c.got.ensures.received j) m) (usable_in (c.got.ensures.received j) (c.sent.ensures j) (c.own.ensures j) u m) (carried_at i.carried u m)) in
     let role = joins a c.join-2.new.up c.join.new.self (i.steps + 1) r (parcel_is x).packet.from.inc side fresh posted counts t in
     record {
