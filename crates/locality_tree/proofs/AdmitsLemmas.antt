@@ -5,6 +5,7 @@ use Rattle.std.specs.Global.{Vec}
 use Rattle.std.specs.Option.{is_none}
 use Rattle.std.proofs.lemmas.List.{get_or_past, length-replicate, length-set}
 use Rattle.std.proofs.lemmas.List.Sums.{count_by-le-length, sum_by-cons}
+use Rattle.fuxi_terms.proofs.Booleans.{not_both}
 use Rattle.slot_pool.specs.Pools.{PoolRecord, value_at}
 use Rattle.slot_pool.specs.declared.pool.Slot.{Slot}
 use Rattle.wait_queue.specs.declared.node.Node.{Node}
@@ -18,9 +19,6 @@ use Rattle.locality_tree.specs.Layouts.{no_places, unit_in, number_of, standing_
 use Rattle.locality_tree.proofs.ChangesLemmas.{unit_same, unit_other, standing_set}
 use Rattle.locality_tree.proofs.PlaceSetsLemmas.{none_set}
 use Rattle.locality_tree.proofs.QueueLaws.{Stays, none_some}
-
-not_both : (b : Bool) → b ≡ true → b ≡ false → ⊥
-not_both b t f = cc
 
 -- what is so anyway
 pub if_err : {A E : Type 0} (r : Result A E) {P : Type 0} → P → OnErr r P

@@ -5,6 +5,7 @@ use Rattle.std.specs.Global.{Vec}
 use Rattle.std.specs.Option.{is_none}
 use Rattle.std.proofs.lemmas.List.{get_or-set_same, get_or-set_other, get_or_past, set-get_or, length-set}
 use Rattle.std.proofs.lemmas.List.Sums.{sum_by-set, count_by-le-length}
+use Rattle.fuxi_terms.proofs.Booleans.{not_both}
 use Rattle.fuxi_terms.proofs.Members.{In}
 use Rattle.slot_pool.specs.Pools.{PoolRecord, value_at}
 use Rattle.slot_pool.specs.declared.pool.Slot.{Slot}
@@ -21,9 +22,6 @@ use Rattle.locality_tree.specs.Layouts.{no_places, unit_in, number_of, HasNumber
 use Rattle.locality_tree.proofs.MembersLemmas.{in_here, in_wider, in_middle, all_from, parted}
 use Rattle.locality_tree.proofs.PlaceSetsLemmas.{none_set}
 use Rattle.locality_tree.proofs.QueueLaws.{Entries, Distinct, One, member_entry, not_outside, same_entry, same_slot, none_some}
-
-not_both : (b : Bool) → b ≡ true → b ≡ false → ⊥
-not_both b t f = cc
 
 pub unit_same : (units : List UnitPlaces) (n : ℕ) (u : UnitPlaces) → n < length units → unit_in (set units n u) n ≡ u
 unit_same units n u h = get_or-set_same units n u no_places h

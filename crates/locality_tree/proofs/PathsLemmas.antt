@@ -3,6 +3,7 @@ use Rattle.std.proofs.Common.{◌≡◌, ◌≢◌, ◌⊎◌, ℕ, ◌+◌, ◌
 use Rattle.std.proofs.lemmas.Bool.{cases_lt}
 use Rattle.std.proofs.lemmas.Bool.Decides.{nat_tests}
 use Rattle.std.proofs.lemmas.List.{append_assoc}
+use Rattle.fuxi_terms.proofs.Booleans.{not_both}
 use Rattle.fuxi_terms.proofs.Members.{In, in_left, in_right}
 use Rattle.slot_pool.specs.declared.pool.Slot.{Slot}
 use Rattle.slot_pool.specs.Pools.{value_at}
@@ -19,9 +20,6 @@ use Rattle.locality_tree.specs.Paths.{level_in, has_level, kept_of, with_levels,
 use Rattle.locality_tree.proofs.MembersLemmas.{in_append, in_here, all_in}
 use Rattle.locality_tree.proofs.QueueLaws.{Entries, Parts, Rises, member_entry, live, same_slot, none_some}
 use Rattle.locality_tree.proofs.RanksLemmas.{by_level, by_priority, by_order, first_left, none_left}
-
-not_both : (b : Bool) → b ≡ true → b ≡ false → ⊥
-not_both b t f = cc
 
 pair_of : (Entry → ℕ) → Item → RankedEntry
 pair_of levels i = (i.1, levels i.1)
