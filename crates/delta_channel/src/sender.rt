@@ -11,7 +11,7 @@ use std::cmp::min;
 use std::marker::Model;
 
 /// For so many changes there is room at first. Most parties send few.
-const FIRST_CHANGES: usize = 4;
+const FIRST_CHANGES: usize = 16;
 
 /// The sending end of a channel: a ledger, the number of changes that led to it, and the last 256 of them.
 ///
