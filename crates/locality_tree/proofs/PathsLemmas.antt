@@ -21,9 +21,6 @@ use Rattle.locality_tree.proofs.MembersLemmas.{in_append, in_here, all_in}
 use Rattle.locality_tree.proofs.QueueLaws.{Entries, Parts, Rises, member_entry, live, same_slot, none_some}
 use Rattle.locality_tree.proofs.RanksLemmas.{by_level, by_priority, by_order, first_left, none_left}
 
-pair_of : (Entry → ℕ) → Item → RankedEntry
-pair_of levels i = (i.1, levels i.1)
-
 -- the pairs of what is kept, and of all
 module _ (keeps : Entry → Bool) (levels : Entry → ℕ) where
   pub kept_in : (items : List Item) (i : Item) → In i items → keeps i.1 ≡ true → In (i.1, levels i.1) (kept_of keeps levels items)

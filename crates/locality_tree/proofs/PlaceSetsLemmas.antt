@@ -58,12 +58,6 @@ module _ (words : List ℕ) (n : ℕ) where
 pub one_bit : (k : ℕ) → k < 64 → 1 * 2 ^ k % 18446744073709551616 ≡ 2 ^ k
 one_bit k h = shl_whole 1 1 k 64 (omega arith) (omega arith) ∙ omega arith
 
-pub same_bool : (a b : Bool) → beq a b ≡ true → a ≡ b
-same_bool true true h = refl
-same_bool true false h = absurd (cc)
-same_bool false true h = absurd (cc)
-same_bool false false h = refl
-
 pub other_bool : (a b : Bool) → not (beq a b) ≡ true → not a ≡ b
 other_bool true true d = absurd (cc)
 other_bool true false d = refl

@@ -7,7 +7,7 @@ use Rattle.slot_pool.specs.declared.pool.Slot.{Slot}
 use Rattle.wait_queue.specs.declared.node.Entry.{Entry}
 use Rattle.wait_queue.specs.declared.node.Node.{Node}
 use Rattle.wait_queue.specs.declared.queue.Queue.{Queue}
-use Rattle.wait_queue.specs.Queues.{Item, Stands, HasPlace, MayEnter, IsOutside, AreBehind, IsInOrder, IsInRange, is_before, rank, entry_at}
+use Rattle.wait_queue.specs.Queues.{Item, Stands, IsOutside, AreBehind, IsInOrder, IsInRange, is_before, rank, entry_at}
 use Rattle.locality_tree.proofs.MembersLemmas.{all_in}
 
 abbrev pub One : Type 0
@@ -19,14 +19,8 @@ Entries = (at : Slot → Option Node) (q : Queue) (items : List Item) → Stands
 abbrev pub Distinct : Type 0
 Distinct = (at : Slot → Option Node) (q : Queue) (front back : List Item) (slot : Slot) (entry : Entry) → Stands at q (front ++ (slot, entry) ∷ back) → IsOutside slot (front ++ back)
 
-abbrev pub Absent : Type 0
-Absent = (at : Slot → Option Node) (q : Queue) (items : List Item) (slot : Slot) → Stands at q items → at slot ≡ None → IsOutside slot items
-
 abbrev pub Stays : Type 0
 Stays = (at after : Slot → Option Node) (q : Queue) (items : List Item) → Stands at q items → ((slot : Slot) → after slot ≡ at slot) → Stands after q items
-
-abbrev pub HavePlaces : Type 0
-HavePlaces = (at : Slot → Option Node) (q : Queue) (e : Entry) → MayEnter at q e → HasPlace at q e
 
 abbrev pub Parts : Type 0
 Parts = (key_first : Bool) (front back : List Item) → IsInOrder key_first (front ++ back) → IsInOrder key_first front × IsInOrder key_first back × AllByRecursion (λ (i : Item). AreBehind key_first i.1 back) front

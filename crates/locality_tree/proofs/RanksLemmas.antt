@@ -28,14 +28,6 @@ by_priority p q h = grind (arith, nat_tests)
 pub by_order : (l : ℕ) (a b : Entry) → is_before true a b ≡ true → ranks_before (a, l) (b, l) ≡ true
 by_order l a b h = grind (arith, nat_tests)
 
-falls : (p q : RankedEntry) → ranks_before p q ≡ true → q.0.priority ≤ p.0.priority
-falls p q h = grind (arith, nat_tests)
-
--- no pair in order has a greater priority than the head
-pub head_most : (p : RankedEntry) (ps : List RankedEntry) (q : RankedEntry) → IsRanked (p ∷ ps) → In q (p ∷ ps) → q.0.priority ≤ p.0.priority
-head_most p ps q h (inl e) = subst (λ (r : RankedEntry). r.0.priority ≤ p.0.priority) (sym e) (omega arith)
-head_most p ps q h (inr g) = falls p q (all_in (λ r. ranks_before p r ≡ true) ps q h.0 g)
-
 least_first : (pairs : List RankedEntry) (b : RankedEntry) → IsRanked pairs → In b pairs → ((q : RankedEntry) → In q pairs → (q ≡ b) ⊎ (ranks_before b q ≡ true)) → (rest : List RankedEntry) × (pairs ≡ b ∷ rest)
 least_first [] b r g least = absurd g
 least_first (p ∷ ps) b r (inl e) least = (ps, ap (λ (x : RankedEntry). x ∷ ps) (sym e))
