@@ -8,6 +8,7 @@ use Rattle.fuxi_terms.specs.Cluster.{ClusterRecord, JobRecord}
 use Rattle.wait_queue.specs.declared.node.Entry.{Entry}
 use Rattle.locality_tree.specs.Trees.{UnitState, TreeRecord, all_units, no_unit, idle, with_idle, unit_at, place_count, cluster_place, started, with_job, refreshed, with_stand, MayWait}
 use Rattle.core_cases.specs.Cases.{entry_of, IsCase}
+use Rattle.fuxi_terms.proofs.IndexedLists.{repeated_at}
 
 none_some : (o : Option Entry) (e : Entry) → o ≡ None → o ≡ Some e → ⊥
 none_some o e h g = cc
@@ -16,19 +17,14 @@ all_are : all_units ≡ 2048
 unfolding all_units
 all_are = refl
 
-none_at : (count n : ℕ) → get_or (replicate count no_unit) n no_unit ≡ no_unit
-none_at zero n = refl
-none_at (suc count) zero = refl
-none_at (suc count) (suc n) = none_at count n
-
 pub case_started : (c : ClusterRecord) (machines : ℕ) → machines ≡ length c.machines → IsCase (started c) machines []
 case_started c machines is = record {
   machines_are = is ∙ sym (length-map c.machines (λ m. m.rack));
   few = omega arith;
   units = length-replicate all_units no_unit;
   admitted = λ i h. absurd (omega arith);
-  fresh = λ a u h g. ap (λ (s : UnitState). nat_lt 0 (length s.stands)) (none_at all_units (8 * a + u));
-  entries = λ n f h. absurd (none_some (get_or (replicate all_units no_unit) n no_unit).entry f (ap (λ (s : UnitState). s.entry) (none_at all_units n)) h);
+  fresh = λ a u h g. ap (λ (s : UnitState). nat_lt 0 (length s.stands)) (repeated_at no_unit all_units (8 * a + u));
+  entries = λ n f h. absurd (none_some (get_or (replicate all_units no_unit) n no_unit).entry f (ap (λ (s : UnitState). s.entry) (repeated_at no_unit all_units n)) h);
 }
 
 -- the condition of a refresh

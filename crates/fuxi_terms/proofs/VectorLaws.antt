@@ -12,6 +12,7 @@ use Rattle.fuxi_terms.specs.Padded.{padded}
 use Rattle.fuxi_terms.specs.Totals.{total_of}
 use Rattle.fuxi_terms.proofs.Booleans.{same_tests}
 use Rattle.fuxi_terms.proofs.ByPlace.{at_place-get_or, get_or-plus, get_or-minus, get_or-times, length-plus, length-minus, length-times, fits_at, fits_from, same_places}
+use Rattle.fuxi_terms.proofs.IndexedLists.{repeated_at}
 
 -- ---- places
 
@@ -44,13 +45,8 @@ fits-trans a b c h k = fits_from a c (λ i l. omega (arith, fits_at a b h i, fit
 pub fits-antisym : (a b : List ℕ) → length a ≡ length b → fits a b ≡ true → fits b a ≡ true → a ≡ b
 fits-antisym a b e h k = same_places a b e (λ i l. omega (arith, fits_at a b h i, fits_at b a k i))
 
-zeros_at : (n i : ℕ) → get_or {A = ℕ} (replicate n 0) i 0 ≡ 0
-zeros_at zero i = refl
-zeros_at (suc n) zero = refl
-zeros_at (suc n) (suc i) = zeros_at n i
-
 pub fits-zeros : (n : ℕ) (a : List ℕ) → fits (replicate n 0) a ≡ true
-fits-zeros n a = fits_from (replicate n 0) a (λ i l. omega (arith, zeros_at n i))
+fits-zeros n a = fits_from (replicate n 0) a (λ i l. omega (arith, repeated_at {A = ℕ} 0 n i))
 
 -- ---- sums and differences
 
@@ -180,7 +176,7 @@ take-padded a = take_at a (replicate (8 - length a) 0) (length a) refl
 
 -- a list with n zeros behind has the same places
 behind_at : (a : List ℕ) (n i : ℕ) → get_or (a ++ replicate n 0) i 0 ≡ get_or a i 0
-behind_at [] n i = zeros_at n i
+behind_at [] n i = repeated_at {A = ℕ} 0 n i
 behind_at (x ∷ a) n zero = refl
 behind_at (x ∷ a) n (suc i) = behind_at a n i
 

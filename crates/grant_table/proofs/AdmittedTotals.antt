@@ -28,7 +28,7 @@ use Rattle.fuxi_terms.proofs.Spots.{Each}
 use Rattle.fuxi_terms.proofs.Alls.{all_more}
 use Rattle.fuxi_terms.proofs.Lookups.{none_is}
 use Rattle.grant_table.proofs.Entries.{entries_each}
-use Rattle.fuxi_terms.proofs.IndexedLists.{one_set}
+use Rattle.fuxi_terms.proofs.IndexedLists.{one_set, repeated_at}
 
 -- ---- the jobs
 -- the job is found, and the others as before
@@ -107,11 +107,6 @@ held_in_none c a u r (e ∷ es) h =
     let rest = held_in_none c a u r es h.1 in
     rw (sum_by-cons w e es) (omega (arith, here, rest))
 
-zeros : (n m : ℕ) → ◌≡◌ {A = ℕ} (get_or (replicate n 0) m 0) 0
-zeros zero m = refl
-zeros (suc n) zero = refl
-zeros (suc n) (suc m) = zeros n m
-
 module _ (c : ClusterRecord) (jobs : List JobRecord) (cells : List (List Cell)) (loads spent : List (List ℕ)) (j : JobRecord) (fresh : List Cell) (l : IsLevel c jobs cells loads spent) (new : is_known (as_known jobs) j.number ≡ false) (valid : IsTrue (is_valid_job 8 j)) (is_fresh : fresh ≡ fresh_cells j.group (length c.machines) j.units) (place : j.number < length cells) where
   abbrev a : ℕ
   a = j.number
@@ -137,7 +132,7 @@ module _ (c : ClusterRecord) (jobs : List JobRecord) (cells : List (List Cell)) 
 
   fresh_none : (u m : ℕ) → get_or (get_or fresh u no_cell).counts m 0 ≡ 0
   fresh_none u m = elim (cases_lt u (length j.units)) [
-    | inl lt ↦ ap (λ (x : Cell). get_or x.counts m 0) (fresh_at u lt) ∙ zeros (length c.machines) m
+    | inl lt ↦ ap (λ (x : Cell). get_or x.counts m 0) (fresh_at u lt) ∙ repeated_at {A = ℕ} 0 (length c.machines) m
     | inr le ↦ ap (λ (x : Cell). get_or x.counts m 0) (get_or-eq_default fresh no_cell (let e = ap length is_fresh ∙ length-map j.units (fresh_cell j.group (length c.machines)) in omega (arith, e, le)))
   ]
 
@@ -190,11 +185,11 @@ module _ (c : ClusterRecord) (jobs : List JobRecord) (cells : List (List Cell)) 
     group = let t : nat_lt j.group 32 ≡ true = (both_true (nat_lt j.group 32) _ (both_true (nat_lt j.number 256) _ valid).1).0 in grind (arith, nat_tests, t);
     bounded = ap (λ (x : UnitRecord). x.most) (unit_got j.units u) ∙ sym (ap (λ (o : Option KnownJob). (unwrap_or (slice_get (unwrap_or (option_map (λ (k : KnownJob). k.job.units) o) []) u) no_unit).most) found_self);
     wide = length-replicate {A = ℕ} (length c.machines) 0;
-    within = λ m. let z = zeros (length c.machines) m in omega (arith, z);
+    within = λ m. let z = repeated_at {A = ℕ} 0 (length c.machines) m in omega (arith, z);
     summed = let z = sum_by-replicate (λ (n : ℕ). n) (length c.machines) 0 in omega (arith, z);
     held = sym (ap (λ es. held es a u) entries_stay ∙ held_none a u (entries_in cells) none_held);
     racks = length-replicate {A = ℕ} 64 0;
-    in_rack = λ r lt. zeros 64 r ∙ sym (ap (λ es. held_in c es a u r) entries_stay ∙ held_in_none c a u r (entries_in cells) none_held);
+    in_rack = λ r lt. repeated_at {A = ℕ} 0 64 r ∙ sym (ap (λ es. held_in c es a u r) entries_stay ∙ held_in_none c a u r (entries_in cells) none_held);
   }
 
   unit_other : (b u : ℕ) → nat_eq a b ≡ false → u < unit_count (as_known jobs) b → IsUnit c (with_admitted j jobs) (entries_in then) b u (cell_at cells b u)

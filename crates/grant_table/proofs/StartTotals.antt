@@ -7,22 +7,18 @@ use Rattle.fuxi_terms.specs.Tables.{total_at, usage_at}
 use Rattle.fuxi_terms.specs.declared.vectors.Res.{Res}
 use Rattle.grant_table.specs.Nested.{entries_of}
 use Rattle.grant_table.specs.GrantTables.{Cell, entries_in, loads_of, as_known, IsLevel}
+use Rattle.fuxi_terms.proofs.IndexedLists.{repeated_at}
 
 pub none_in : (cells : List (List Cell)) → cells ≡ [] → entries_in cells ≡ []
 unfolding entries_of
 none_in cells e = ap entries_in e
-
-zeros : (n i : ℕ) → ◌≡◌ {A = ℕ} (get_or (replicate n 0) i 0) 0
-zeros zero i = refl
-zeros (suc n) zero = refl
-zeros (suc n) (suc i) = zeros n i
 
 pub no_load : (used : List Res) (n : ℕ) (r : Res) → used ≡ replicate n r → r.q ≡ replicate 8 0 → (m i : ℕ) → get_or (get_or (loads_of used) m []) i 0 ≡ 0
 no_load used n r e q m i = ap (λ xs. get_or (get_or (loads_of xs) m []) i 0) e ∙ by n m
   where
     by : (n m : ℕ) → get_or (get_or (loads_of (replicate n r)) m []) i 0 ≡ 0
     by zero m = refl
-    by (suc n) zero = ap (λ xs. get_or xs i 0) q ∙ zeros 8 i
+    by (suc n) zero = ap (λ xs. get_or xs i 0) q ∙ repeated_at {A = ℕ} 0 8 i
     by (suc n) (suc m) = by n m
 
 pub loads_long : (used : List Res) (n : ℕ) (r : Res) → used ≡ replicate n r → length (loads_of used) ≡ n

@@ -19,6 +19,7 @@ use Rattle.locality_tree.specs.Layouts.{no_places, unit_in, number_of, standing_
 use Rattle.locality_tree.proofs.ChangesLemmas.{unit_same, unit_other, standing_set}
 use Rattle.locality_tree.proofs.PlaceSetsLemmas.{none_set}
 use Rattle.locality_tree.proofs.QueueLaws.{Stays, none_some}
+use Rattle.fuxi_terms.proofs.IndexedLists.{repeated_at}
 
 -- what is so anyway
 pub if_err : {A E : Type 0} (r : Result A E) {P : Type 0} → P → OnErr r P
@@ -39,11 +40,6 @@ grown_start units few = record { longer = omega arith; few = few; same = λ n h.
 none_at : (n : ℕ) → unit_in [] n ≡ no_places
 none_at n = get_or_past [] n no_places (omega arith)
 
-zero_at : (places k : ℕ) → get_or (replicate places 0) k 0 ≡ (let none : ℕ = 0 in none)
-zero_at zero k = let none : ℕ = 0 in get_or_past [] k none (omega arith)
-zero_at (suc n) zero = refl
-zero_at (suc n) (suc k) = zero_at n k
-
 -- with no unit
 pub laid_empty : (at : Slot → Option Node) (spare : ℕ) (q : Queue) (places : ℕ) → Stands at q [] → q.key_first ≡ true → places ≤ 384 → AreLaidOut at spare q [] (replicate places 0)
 laid_empty at spare q places stands order few = record {
@@ -59,7 +55,7 @@ laid_empty at spare q places stands order few = record {
   room = omega arith;
   few = omega arith;
   narrow = let len = length-replicate {A = ℕ} places 0 in omega (arith, len, few);
-  counted = λ k _. zero_at places k;
+  counted = λ k _. repeated_at {A = ℕ} 0 places k;
 }
 
 -- a unit waits and stands as before, and is admitted where it was

@@ -9,14 +9,10 @@ use lib.Bits.{bit_xor}
 use Rattle.std.proofs.Math.Nat.{div-le_self}
 use Rattle.std.specs.Int.{w64, bit_at, trailing_zeros}
 use Rattle.locality_tree.specs.PlaceSets.{in_set}
-
-zeros : (k i : ℕ) → get_or {A = ℕ} (replicate k 0) i 0 ≡ 0
-zeros zero i = refl
-zeros (suc k) zero = refl
-zeros (suc k) (suc i) = zeros k i
+use Rattle.fuxi_terms.proofs.IndexedLists.{repeated_at}
 
 pub none_set : (words : List ℕ) (k n : ℕ) → words ≡ replicate k 0 → in_set (record { words = words }) n ≡ false
-none_set words k n is = ap (λ w. nat_eq (bit_at w (n % 64)) 1) (ap (λ (ws : List ℕ). get_or ws (n / 64) 0) is ∙ zeros k (n / 64)) ∙ ap (λ b. nat_eq b 1) (bit_at-zero (n % 64))
+none_set words k n is = ap (λ w. nat_eq (bit_at w (n % 64)) 1) (ap (λ (ws : List ℕ). get_or ws (n / 64) 0) is ∙ repeated_at {A = ℕ} 0 k (n / 64)) ∙ ap (λ b. nat_eq b 1) (bit_at-zero (n % 64))
 
 one_more : (r : ℕ) → r < 2 → nat_eq ((r + 1) % 2) 1 ≡ not (nat_eq r 1)
 one_more zero h = refl

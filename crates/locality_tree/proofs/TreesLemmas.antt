@@ -23,6 +23,7 @@ use Rattle.locality_tree.proofs.ChangesLemmas.{unit_same, unit_other, queued, wa
 use Rattle.locality_tree.proofs.PathsLemmas.{all_levels_in, all_levels_out}
 use Rattle.locality_tree.proofs.RanksLemmas.{sorted}
 use Rattle.locality_tree.proofs.QueueLaws.{Entries, same_entry, none_some}
+use Rattle.fuxi_terms.proofs.IndexedLists.{repeated_at}
 
 -- the marks of a set
 pub marks_get : (s : PlaceSet) (k n j : ℕ) → j < n → get_or (marks_from s k n) j false ≡ in_set s (k + j)
@@ -68,11 +69,6 @@ map_but f g [] n u same = refl
 map_but f g (v ∷ vs) zero u same = ap (λ (xs : List UnitState). f u ∷ xs) (map_same f g vs (λ m. same (suc m) (λ e. omega (arith, e))))
 map_but f g (v ∷ vs) (suc n) u same = ap (λ (x : UnitState). x ∷ map f (set vs n u)) (same 0 (λ e. omega (arith, e))) ∙ ap (λ (xs : List UnitState). g v ∷ xs) (map_but f g vs n u (λ m d. same (suc m) (λ e. d (omega (arith, e)))))
 
-none_at : (count n : ℕ) → get_or (replicate count no_unit) n no_unit ≡ no_unit
-none_at zero n = refl
-none_at (suc count) zero = refl
-none_at (suc count) (suc n) = none_at count n
-
 module _ (at : Slot → Option Node) (places : ℕ) (units : List UnitPlaces) where
   -- what is seen of a unit
   pub state_at : (n : ℕ) → get_or (states_in at places units) n no_unit ≡ state_of at places (unit_in units n)
@@ -82,7 +78,7 @@ module _ (at : Slot → Option Node) (places : ℕ) (units : List UnitPlaces) wh
         get_or_append_left (map (state_of at places) units) (replicate (all_units - length units) no_unit) no_unit n long ∙ get_or-map (state_of at places) units n no_places no_unit lt
     | inr ge ↦
         get_or-append_right (map (state_of at places) units) (replicate (all_units - length units) no_unit) (length units) n no_unit (length-map units (state_of at places)) ge
-        ∙ none_at (all_units - length units) (n - length units) ∙ sym (ap (state_of at places) (get_or_past units n no_places ge))
+        ∙ repeated_at no_unit (all_units - length units) (n - length units) ∙ sym (ap (state_of at places) (get_or_past units n no_places ge))
   ]
 
   -- one unit's change is seen of it alone

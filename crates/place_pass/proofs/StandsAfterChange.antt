@@ -205,18 +205,13 @@ module _ (c : ClusterRecord) (cells : List (List Cell)) (xs : List Cell) (line :
       stands_asked c cells cells' es a u now (asks a) (stands_on c cells es a u t now refl same (all a u w))
 
 -- ---- at the start
-none_at : (count n : ℕ) → get_or (replicate count no_unit) n no_unit ≡ no_unit
-none_at zero n = refl
-none_at (suc count) zero = refl
-none_at (suc count) (suc n) = none_at count n
-
 pub holds_started : (c : ClusterRecord) (cells : List (List Cell)) (turns : List ℕ) → ((a : ℕ) → length (get_or cells a []) ≡ 0) → HoldsLine c cells [] turns (started c)
 holds_started c cells turns empty = record {
   racks = refl;
   all = length-replicate all_units no_unit;
-  places = λ a u lu. ap (λ (s : UnitState). length s.stands) (none_at all_units (unit_number a u)) ∙ ap (λ b. cond b (place_count (racks_of c)) 0) (sym (ap (nat_lt u) (empty a) ∙ (let y : nat_lt u 0 ≡ false = grind (arith, nat_tests) in y)));
+  places = λ a u lu. ap (λ (s : UnitState). length s.stands) (repeated_at no_unit all_units (unit_number a u)) ∙ ap (λ b. cond b (place_count (racks_of c)) 0) (sym (ap (nat_lt u) (empty a) ∙ (let y : nat_lt u 0 ≡ false = grind (arith, nat_tests) in y)));
   few = λ a u w. cc;
   entry = λ a u w. cc;
-  none = λ a u lu w. ap (λ (s : UnitState). s.entry) (none_at all_units (unit_number a u));
-  nowhere = λ a u place lu w. ap (λ (s : UnitState). get_or s.stands place false) (none_at all_units (unit_number a u));
+  none = λ a u lu w. ap (λ (s : UnitState). s.entry) (repeated_at no_unit all_units (unit_number a u));
+  nowhere = λ a u place lu w. ap (λ (s : UnitState). get_or s.stands place false) (repeated_at no_unit all_units (unit_number a u));
 }

@@ -4,13 +4,11 @@ use Rattle.std.specs.Int.{from_be_bytes, cast_signed, w32, w64}
 use Rattle.std.proofs.lemmas.Int.{to_z-of_z}
 use Rattle.std.proofs.lemmas.List.Elements.{All-from_recursion}
 use Rattle.fuxi_terms.specs.Counts.{is_no_change}
+use Rattle.fuxi_terms.proofs.Booleans.{not_both}
 use Rattle.ledger_law.specs.Forms.{change_entry, headed, IsChangeEntry}
 use Rattle.ledger_law.proofs.NoForm.{not_single, not_changes}
 use Rattle.ledger_law.proofs.tally.read_single.Goals.{then-change-eq0-via-then-change-eq0, then-change-eq0-via-else-change-eq0+then-unsigned_abs-greatest}
 use Rattle.ledger_law.proofs.tally.read_single.Goals as goal
-
-not_both : (b : Bool) → b ≡ true → b ≡ false → ⊥
-not_both b t f = cc
 
 too_great : (n m a b : ℕ) → n ≡ a → m ≡ b → m < n → a ≤ b → ⊥
 too_great n m a b n_is m_is lt le = omega arith
