@@ -8,4 +8,5 @@ mod place_set;
 mod tree;
 
 pub use path::Path;
+pub use place_set::PlaceSet;
 pub use tree::Tree;

@@ -4,21 +4,21 @@ ghost use Rattle.std.specs.Prelude.{◌≡◌, ◌≢◌, ℕ, ◌<◌, ◌≤�
 ghost use Rattle.locality_tree.specs.PlaceSets.{in_set};
 
 /// A set of places, numbers below 384: a bit for each.
-#[derive(Clone, Copy)]
-pub(crate) struct PlaceSet {
+#[derive(Clone, Copy, PartialEq, Eq)]
+pub struct PlaceSet {
     words: [u64; 6],
 }
 
 impl PlaceSet {
     /// No place.
-    pub(crate) fn new() -> PlaceSet
+    pub fn new() -> PlaceSet
         ensures { (n : ℕ) → in_set result n ≡ false }
     {
         PlaceSet { words: [0; 6] }
     }
 
     /// Whether the place is in the set.
-    pub(crate) fn contains(&self, place: usize) -> bool
+    pub fn contains(&self, place: usize) -> bool
         requires { place < 384 }
         ensures { result ≡ in_set self.now place }
     {
@@ -26,7 +26,7 @@ impl PlaceSet {
     }
 
     /// The place is in the set, or is not.
-    pub(crate) fn set(&mut self, place: usize, stands: bool)
+    pub fn set(&mut self, place: usize, stands: bool)
         requires { place < 384 }
         ensures here { in_set self.new place ≡ stands }
         ensures others { (n : ℕ) → n ≢ place → in_set self.new n ≡ in_set self.old n }
@@ -37,7 +37,7 @@ impl PlaceSet {
     }
 
     /// The first place of the set from one on, and 384 where there is none.
-    pub(crate) fn next(&self, from: usize) -> usize
+    pub fn next(&self, from: usize) -> usize
         requires { from ≤ 384 }
         ensures least { from ≤ result }
         ensures most { result ≤ 384 }

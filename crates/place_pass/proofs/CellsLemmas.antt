@@ -1,8 +1,9 @@
 -- What is asked at a key after a demand is taken over.
-use Rattle.std.proofs.Common.{◌≡◌, ℕ, zero, suc, ◌+◌, ◌<◌, ◌≤◌, Bool, true, false, cond, nat_eq, nat_lt, List, [], ◌∷◌, length, get_or, min, set, refl, sym, ◌∙◌, ap, subst, arith, length-set}
-use Rattle.std.specs.Prelude.{replicate}
+use Rattle.std.proofs.Common.{◌≡◌, ◌≢◌, ℕ, zero, suc, ◌+◌, ◌<◌, ◌≤◌, Bool, true, false, cond, nat_eq, nat_lt, List, [], ◌∷◌, length, get_or, min, set, refl, sym, ◌∙◌, ap, subst, arith, inl, inr, length-set}
+use Rattle.std.specs.Prelude.{◌&&◌, not, replicate}
+use Rattle.std.proofs.lemmas.Bool.{cases_eq}
 use Rattle.std.proofs.lemmas.Bool.Decides.{nat_tests}
-use Rattle.std.proofs.lemmas.List.{get_or-map, length-map, length-replicate}
+use Rattle.std.proofs.lemmas.List.{ext_get_or, get_or-map, get_or-set_same, get_or-set_other, length-map, length-replicate}
 use Rattle.fuxi_terms.specs.Cluster.{ClusterRecord, UnitRecord, has_rack}
 use Rattle.fuxi_terms.specs.declared.Key.{Key}
 use Rattle.fuxi_terms.specs.Keys.{key_cmp}
@@ -10,13 +11,15 @@ use Rattle.fuxi_terms.specs.Counts.{count, AreCounts}
 use Rattle.fuxi_terms.proofs.CountsLemmas.{count_le}
 use Rattle.fuxi_terms.specs.TallyKeys.{greatest_demand, is_place, where_holds, key}
 use Rattle.fuxi_terms.specs.Jobs.{no_unit}
-use Rattle.place_pass.specs.Cells.{Cell, AreWishes, AreAbove, IsWish, cell_at, fresh_cell, fresh_cells, no_cell, taken, taken_all}
+use Rattle.place_pass.specs.Cells.{Cell, AreWishes, AreAbove, IsWish, cell_at, fresh_cell, fresh_cells, is_gone, no_cell, ones_in, taken, taken_all}
+use Rattle.locality_tree.specs.declared.place_set.PlaceSet.{PlaceSet}
+use Rattle.locality_tree.specs.PlaceSets.{in_set}
 use Rattle.fuxi_terms.specs.Vectors.{fits}
 use Rattle.fuxi_terms.proofs.VectorLaws.{fits-trans, fits_places}
 use Rattle.fuxi_terms.proofs.ByPlace.{at_place-get_or}
 use Rattle.fuxi_terms.proofs.KeyOrders.{key_total, same_key}
-use Rattle.place_pass.proofs.Places.{counted_long}
-use Rattle.fuxi_terms.proofs.IndexedLists.{one_set, slot_within}
+use Rattle.place_pass.proofs.Places.{counted_at, counted_long}
+use Rattle.fuxi_terms.proofs.IndexedLists.{one_set, repeated_at, slot_within}
 
 -- a number that is asked for is small
 pub asked_small : (es : List (Key × ℕ)) (what unit number : ℕ) → what < 5 → AreCounts key_cmp greatest_demand es → count key_cmp es (key what unit number) ≤ 100000
@@ -153,3 +156,65 @@ lesser_fits q a b is = (
   (fits_places q a).1 (λ i. let e = is i in let x = at_place-get_or q i in let y = at_place-get_or a i in omega (arith, e, x, y)),
   (fits_places q b).1 (λ i. let e = is i in let x = at_place-get_or q i in let y = at_place-get_or b i in omega (arith, e, x, y)),
 )
+
+-- ---- the machines that are avoided, by number
+pub avoided_once : (es : List (Key × ℕ)) (unit number : ℕ) → AreCounts key_cmp greatest_demand es → count key_cmp es (key 4 unit number) ≤ 1
+avoided_once es unit number h =
+    let le = count_le key_total same_key greatest_demand es (key 4 unit number) h.within in
+    let g : greatest_demand (key 4 unit number) ≤ 1 = by (is_place (key 4 unit number)) in
+    omega (arith, le, g)
+  where
+    by : (b : Bool) → where_holds b 1 ≤ 1
+    by true = omega arith
+    by false = omega arith
+
+pub one_where : (n m : ℕ) (s : PlaceSet) → m < n → nat_lt 0 (get_or (ones_in n s) m 0) ≡ in_set s m
+one_where n m s lt = ap (nat_lt 0) (counted_at (λ k. cond (in_set s k) 1 0) n m lt) ∙ by (in_set s m)
+  where
+    by : (b : Bool) → nat_lt 0 (cond b 1 0) ≡ b
+    by true = refl
+    by false = refl
+
+-- a number that is at most 1 is 1 exactly where the set has it
+one_is : (b : Bool) (x : ℕ) → x ≤ 1 → b ≡ nat_lt 0 x → cond b 1 0 ≡ x
+one_is b zero le e = ap (λ t. cond t 1 0) e
+one_is b (suc zero) le e = ap (λ t. cond t 1 0) e
+one_is b (suc (suc x)) le e = absurd (omega (arith, le))
+
+pub ones_are : (n : ℕ) (s : PlaceSet) (xs : List ℕ) → length xs ≡ n → ((m : ℕ) → m < n → get_or xs m 0 ≤ 1) → ((m : ℕ) → m < n → in_set s m ≡ nat_lt 0 (get_or xs m 0)) → ones_in n s ≡ xs
+ones_are n s xs long small is =
+    let f : ℕ → ℕ = λ m. cond (in_set s m) 1 0 in
+    let all = counted_long f n in
+    ext_get_or 0 (ones_in n s) xs (all ∙ sym long) (λ m lt. let l : m < n = omega (arith, lt, all) in counted_at f n m l ∙ one_is (in_set s m) (get_or xs m 0) (small m l) (is m l))
+
+pub ones_none : (n : ℕ) (s : PlaceSet) → ((m : ℕ) → in_set s m ≡ false) → ones_in n s ≡ replicate n 0
+ones_none n s none = ones_are n s (replicate n 0) (length-replicate n 0)
+    (λ m lt. let z = repeated_at {A = ℕ} 0 n m in omega (arith, z)) (λ m lt. none m ∙ sym (ap (nat_lt 0) (repeated_at {A = ℕ} 0 n m)))
+
+pub ones_set : (n m x : ℕ) (s t : PlaceSet) → m < n → x ≤ 1 → in_set t m ≡ nat_lt 0 x → ((k : ℕ) → k ≢ m → in_set t k ≡ in_set s k) → ones_in n t ≡ set (ones_in n s) m x
+ones_set n m x s t lt small here others =
+    let f : ℕ → ℕ = λ k. cond (in_set s k) 1 0 in
+    let all = counted_long f n in
+    let read : (k : ℕ) → get_or (set (ones_in n s) m x) k 0 ≡ cond (nat_eq m k) x (get_or (ones_in n s) k 0) = λ k. one_set (ones_in n s) m k x 0 (omega (arith, lt, all)) in
+    ones_are n t (set (ones_in n s) m x) (length-set (ones_in n s) m x ∙ all)
+    (λ k l. subst (λ z. z ≤ 1) (sym (read k)) (few (nat_eq m k) (get_or (ones_in n s) k 0) (subst (λ z. z ≤ 1) (sym (counted_at f n k l)) (one (in_set s k)))))
+    (λ k l. elim (cases_eq k m) as (λ _. in_set t k ≡ nat_lt 0 (get_or (set (ones_in n s) m x) k 0)) [
+      | inl e ↦ ap (in_set t) e ∙ here ∙ ap (nat_lt 0) (sym (get_or-set_same (ones_in n s) m x 0 (omega (arith, lt, all))) ∙ ap (λ j. get_or (set (ones_in n s) m x) j 0) (sym e))
+      | inr d ↦ others k d ∙ sym (one_where n k s l) ∙ ap (nat_lt 0) (sym (get_or-set_other (ones_in n s) m k x 0 d))
+    ])
+  where
+    few : (b : Bool) (y : ℕ) → y ≤ 1 → cond b x y ≤ 1
+    few true y le = small
+    few false y le = le
+
+    one : (b : Bool) → cond b 1 0 ≤ 1
+    one true = omega arith
+    one false = omega arith
+
+-- nothing is left of a number exactly where the set has the machine and the new number is 0
+pub gone_where : (n m x : ℕ) (s : PlaceSet) → m < n → is_gone (get_or (ones_in n s) m 0) x ≡ (in_set s m && not (nat_lt 0 x))
+gone_where n m x s lt = ap (λ b. b && nat_eq x 0) (one_where n m s lt) ∙ ap (λ b. in_set s m && b) (by x)
+  where
+    by : (x : ℕ) → nat_eq x 0 ≡ not (nat_lt 0 x)
+    by zero = refl
+    by (suc x) = let some : nat_lt 0 (suc x) ≡ true = grind (arith, nat_tests) in let more : nat_eq (suc x) 0 ≡ false = grind (arith, nat_tests) in more ∙ sym (ap not some)

@@ -1,7 +1,6 @@
 -- A walk along entries in order finds at each key what stands there.
-use Rattle.std.proofs.Common.{◌≡◌, ℕ, zero, suc, ◌+◌, ◌<◌, Bool, true, false, cond, List, [], ◌∷◌, length, drop, get_or, Some, refl, sym, ◌∙◌, ap, subst, arith, add-one, true≢false}
-use Rattle.std.specs.Prelude.{T, ◌||◌}
-use Rattle.std.specs.List.{list_any}
+use Rattle.std.proofs.Common.{◌≡◌, ℕ, zero, suc, ◌+◌, ◌<◌, true, false, cond, List, [], ◌∷◌, length, drop, get_or, Some, refl, sym, ◌∙◌, ap, subst, arith, add-one, true≢false}
+use Rattle.std.specs.Prelude.{T}
 use Rattle.std.specs.Option.{unwrap_or}
 use Rattle.std.specs.Ordering.{nat_cmp, is_eq, is_lt, ordering_then, ordering_reverse}
 use Rattle.std.specs.declared.cmp.Ordering.{Ordering}
@@ -11,13 +10,10 @@ use Rattle.std.proofs.lemmas.List.{drop_more}
 use Rattle.fuxi_terms.specs.Counts.{count}
 use Rattle.fuxi_terms.specs.declared.Key.{Key}
 use Rattle.fuxi_terms.specs.Keys.{key_cmp}
-use Rattle.fuxi_terms.specs.Lists.{below}
 use Rattle.fuxi_terms.specs.TallyKeys.{key}
 use Rattle.fuxi_terms.proofs.CountsLemmas.{both_true, find_below_head, lesser, tied}
 use Rattle.fuxi_terms.proofs.KeyOrders.{key_total, same_key}
 use Rattle.place_pass.specs.DemandWalks.{IsPast}
-use Rattle.place_pass.proofs.WaitingLinesLemmas.{any_append}
-use Rattle.fuxi_terms.proofs.Booleans.{or_false}
 use Rattle.fuxi_terms.proofs.NumberOrders.{compared_less, compared_itself}
 
 key_tied : (k : Key) → key_cmp k k ≡ Equal
@@ -105,7 +101,3 @@ pub found_later : (es : List (Key × ℕ)) (at : ℕ) (k : Key) (d : Key × ℕ)
 found_later es at k d sorted lt other above past =
     stands_later es at k (get_or es at d) (drop (at + 1) es) (drop_more es at d lt) (subst (λ l. T (is_sorted key_cmp l)) (drop_more es at d lt) (sorted_rest at es sorted))
     (key_total.antisymm k (get_or es at d).0 ∙ ap ordering_reverse (greater (key_cmp (get_or es at d).0 k) other above)) (itself k) past
-
--- one number more that was looked at
-pub one_more : (f : ℕ → Bool) (n : ℕ) → list_any f (below (n + 1)) ≡ (list_any f (below n) || f n)
-one_more f n = ap (λ k. list_any f (below k)) (add-one n) ∙ any_append f (below n) (n ∷ []) ∙ ap (λ b. list_any f (below n) || b) (or_false (f n))

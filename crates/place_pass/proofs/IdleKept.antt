@@ -52,6 +52,12 @@ any_one p (suc n) i e lt =
       | false ↦ λ f. let d : i ≢ n = grind (arith, nat_tests) in any_one p n i b.0 (omega (arith, lt, d))
     ] refl
 
+pub any_alike : (p q : ℕ → Bool) (n : ℕ) → ((i : ℕ) → i < n → p i ≡ q i) → list_any p (below n) ≡ list_any q (below n)
+any_alike p q zero h = refl
+any_alike p q (suc n) h =
+    let last = λ (r : ℕ → Bool). ap (λ k. list_any r (below k)) (sym (add-one n)) ∙ any_last r n in
+    last p ∙ ap (λ b. b || p n) (any_alike p q n (λ i lt. h i (omega (arith, lt)))) ∙ ap (λ b. list_any q (below n) || b) (h n (omega arith)) ∙ sym (last q)
+
 pub any_none : (p : ℕ → Bool) (n : ℕ) → ((i : ℕ) → i < n → p i ≡ false) → list_any p (below n) ≡ false
 any_none p zero h = refl
 any_none p (suc n) h =

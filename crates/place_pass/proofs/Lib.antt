@@ -1,5 +1,4 @@
 pub mod Places
-pub mod AskedParts
 pub mod CellsLemmas
 pub mod ValidJobs
 pub mod CellsMatchTable

@@ -29,11 +29,11 @@ use Rattle.place_pass.specs.Cells.{Cell, no_cell, asks_at, asks_in, job_in, job_
 use Rattle.place_pass.specs.Best.{AreAdmitted}
 use Rattle.place_pass.specs.WaitingLines.{same_pair, units_in_all}
 use Rattle.place_pass.specs.Placers.{AreLevel, is_there, IsSetFrom}
-use Rattle.place_pass.proofs.Places.{zeros, counted_at, counted_past}
+use Rattle.place_pass.proofs.Places.{counted_at, counted_past}
 use Rattle.place_pass.proofs.CellsLemmas.{length-taken_all, get_or-taken_all}
 use Rattle.place_pass.proofs.CellsMatchTable.{count_is}
 use Rattle.place_pass.proofs.WaitingLinesLemmas.{any_append, has_filter, has_flat, known_number, filter_same}
-use Rattle.fuxi_terms.proofs.IndexedLists.{one_set}
+use Rattle.fuxi_terms.proofs.IndexedLists.{one_set, repeated_at}
 
 -- ---- how many units there are
 pub units_small : (c : ClusterRecord) (cells : List (List Cell)) (o : List Bool) → AreWishes c cells o → units_in_all cells ≤ 2048
@@ -108,7 +108,7 @@ asks_admitted cells n g m us lt empty b k = ap (λ xs. asks_at (get_or xs k.unit
   where
     fresh : (u : ℕ) → asks_at (get_or (fresh_cells g m us) u no_cell) k ≡ 0
     fresh u = elim (cases_lt u (length us)) [
-      | inl l ↦ ap (λ x. asks_at x k) (get_or-map (fresh_cell g m) us u no_unit no_cell l) ∙ asks_zero (fresh_cell g m (get_or us u no_unit)) k refl (zeros m) (zeros 64) (zeros m)
+      | inl l ↦ ap (λ x. asks_at x k) (get_or-map (fresh_cell g m) us u no_unit no_cell l) ∙ asks_zero (fresh_cell g m (get_or us u no_unit)) k refl (repeated_at {A = ℕ} 0 m) (repeated_at {A = ℕ} 0 64) (repeated_at {A = ℕ} 0 m)
       | inr ge ↦ ap (λ x. asks_at x k) (get_or-eq_default (fresh_cells g m us) no_cell (let n = length-map us (fresh_cell g m) in omega (arith, n, ge))) ∙ no_asks k
     ]
 

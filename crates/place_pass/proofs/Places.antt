@@ -1,13 +1,12 @@
 -- Lists by place: what is read after one is written, mapped or counted up.
 use Rattle.std.proofs.Common.{◌≡◌, ℕ, zero, suc, ◌<◌, ◌≤◌, List, [], ◌∷◌, ◌++◌, length, get_or, map, refl, sym, ◌∙◌, ap, subst, arith, inl, inr}
-use Rattle.std.specs.Prelude.{replicate}
 use Rattle.std.proofs.lemmas.Bool.{cases_lt}
 use Rattle.std.proofs.lemmas.List.{get_or-map, length-map}
 use Rattle.std.proofs.Math.ListN.{get_or-eq_default}
 use Rattle.fuxi_terms.specs.Lists.{below}
 use Rattle.fuxi_terms.proofs.Lists.{length-below}
 
-get_or-below : (n i : ℕ) → i < n → get_or (below n) i 0 ≡ i
+pub get_or-below : (n i : ℕ) → i < n → get_or (below n) i 0 ≡ i
 get_or-below zero i lt = absurd (omega (arith, lt))
 get_or-below (suc n) i lt = last (below n) n i (length-below n) (λ k l. get_or-below n k l) lt
   where
@@ -36,8 +35,3 @@ counted_past f n i le = get_or-eq_default (map f (below n)) 0 (let l = length-ma
 
 pub counted_long : (f : ℕ → ℕ) (n : ℕ) → length (map f (below n)) ≡ n
 counted_long f n = length-map (below n) f ∙ length-below n
-
-pub zeros : (n i : ℕ) → ◌≡◌ {A = ℕ} (get_or (replicate n 0) i 0) 0
-zeros zero i = refl
-zeros (suc n) zero = refl
-zeros (suc n) (suc i) = zeros n i

@@ -1,12 +1,12 @@
 -- Where units stand, and who waits, after a change of the table, a demand, or a job more.
 use Rattle.std.proofs.Common.{◌≡◌, ◌≢◌, ℕ, zero, suc, ◌+◌, ◌*◌, ◌<◌, ◌≤◌, Bool, true, false, cond, not, nat_eq, nat_lt, List, [], Some, None, length, filter, get_or, set, refl, sym, ap, subst, ◌∙◌, inl, inr, arith, length-set}
-use Rattle.std.specs.Prelude.{◌&&◌, T, replicate}
+use Rattle.std.specs.Prelude.{◌&&◌, T}
 use Rattle.std.specs.FinMap.Entries.{is_sorted}
 use Rattle.std.proofs.lemmas.Bool.{cases_eq, cases_lt}
 use Rattle.std.proofs.lemmas.Bool.Decides.{nat_tests}
 use Rattle.std.proofs.lemmas.List.{get_or-set_same, get_or-set_other, length-replicate}
 use Rattle.fuxi_terms.specs.Cluster.{ClusterRecord, JobRecord, rack_of}
-use Rattle.fuxi_terms.specs.Counts.{count, set_count}
+use Rattle.fuxi_terms.specs.Counts.{set_count}
 use Rattle.fuxi_terms.specs.Keys.{Spot, spot_cmp, Pair}
 use Rattle.fuxi_terms.specs.Tables.{spot, held_on, held_in, Table}
 use Rattle.fuxi_terms.specs.TallyKeys.{near_key, rack_key}

@@ -1,5 +1,5 @@
 -- What the program keeps of one unit, and what is asked at a key.
-use Rattle.std.specs.Prelude.{◌≡◌, ℕ, ◌+◌, ◌-◌, ◌*◌, ◌<◌, ◌≤◌, Bool, cond, nat_eq, nat_lt, ◌&&◌, ◌||◌, List, [], ◌∷◌, ◌++◌, length, map, take, drop, replicate, Option, Some, None, true}
+use Rattle.std.specs.Prelude.{◌≡◌, ℕ, ◌+◌, ◌-◌, ◌*◌, ◌<◌, ◌≤◌, Bool, cond, nat_eq, nat_lt, ◌&&◌, ◌||◌, List, [], ◌∷◌, ◌++◌, length, map, replicate, Option, Some, None, true}
 use Rattle.std.specs.Global.{Vec}
 use Rattle.std.specs.List.{list_any}
 use Rattle.std.proofs.Common.{get_or}
@@ -12,6 +12,8 @@ use Rattle.fuxi_terms.specs.TallyKeys.{key, want_key, rack_key, avoid_key}
 use Rattle.fuxi_terms.specs.Lists.{below}
 use Rattle.fuxi_terms.specs.Jobs.{no_unit}
 use Rattle.fuxi_terms.specs.Vectors.{fits}
+use Rattle.locality_tree.specs.declared.place_set.PlaceSet.{PlaceSet}
+use Rattle.locality_tree.specs.PlaceSets.{in_set}
 use Rattle.place_pass.specs.declared.wishes.Wish.{Wish}
 
 -- the unit and its group; how many grants are wanted in all, by machine and by rack; and by machine, 1 where it is avoided
@@ -23,18 +25,12 @@ pub record Cell : Type 0 where
   pub racks : List ℕ
   pub avoided : List ℕ
 
--- the parts of the list that is kept of a unit: what is wanted by machine, what by rack, and the machines that are avoided
-abbrev pub near_in : ℕ → List ℕ → List ℕ
-near_in machines asked = take machines asked
-
-abbrev pub racks_in : ℕ → List ℕ → List ℕ
-racks_in machines asked = take 64 (drop machines asked)
-
-abbrev pub avoided_in : ℕ → List ℕ → List ℕ
-avoided_in machines asked = drop (machines + 64) asked
+-- by number, as far as one, 1 where a set has it
+abbrev pub ones_in : ℕ → PlaceSet → List ℕ
+ones_in n s = map (λ m. cond (in_set s m) 1 0) (below n)
 
 abbrev pub cell_of : Wish → Cell
-cell_of w = record { unit = record { priority = w.priority; size = w.size.q; most = w.most }; group = w.group.0; want = w.want; near = near_in w.machines w.asked.items; racks = racks_in w.machines w.asked.items; avoided = avoided_in w.machines w.asked.items }
+cell_of w = record { unit = record { priority = w.priority; size = w.size.q; most = w.most }; group = w.group.0; want = w.want; near = w.near.items; racks = w.racks; avoided = ones_in (length w.near.items) w.avoided }
 
 abbrev pub cells_in : Vec Wish → List Cell
 cells_in v = map cell_of v.items

@@ -13,7 +13,7 @@ ghost use Rattle.written_roles.specs.Placing.{has_pair};
 ghost use Rattle.locality_tree.specs.Trees.{unit_at, rack_place, with_stand};
 ghost use Rattle.place_pass.specs.Best.{AreAdmitted};
 ghost use Rattle.place_pass.specs.Bounds.{mark_at};
-ghost use Rattle.place_pass.specs.Cells.{cell_of, cells_in, no_cell, unit_places, asks_at, is_gone, taken_all, any_more};
+ghost use Rattle.place_pass.specs.Cells.{cell_of, cells_in, no_cell, unit_places, asks_at, is_gone, ones_in, taken_all, any_more};
 ghost use Rattle.place_pass.specs.Placers.{is_named};
 ghost use Rattle.place_pass.specs.Sights.{IsAsked};
 ghost use Rattle.place_pass.specs.PlacerTrees.{HoldsLine, AllStand, StandsAs, WaitsIn, is_unmet_on, is_unmet_in};
@@ -22,13 +22,13 @@ ghost use Rattle.place_pass.specs.DemandScopes.{AsksSameBut, IsWritten, IsWritte
 use crate::line::Line;
 use crate::marks::{Marks, lower_all};
 use crate::standing::entry_for;
-use crate::wishes::{RACKS, Wish, Wishes, number_at, put_number, rack_number};
+use crate::wishes::{RACKS, Wish, Wishes, number_at, rack_number};
 use cluster_desc::Cluster;
 use fuxi_terms::Key;
 use fuxi_terms::limits::MOST_RACKS;
 use fuxi_terms::tally_keys::{AVOID, NEAR, RACK, WANT};
 use grant_table::GrantTable;
-use locality_tree::Tree;
+use locality_tree::{PlaceSet, Tree};
 use party_ledgers::Demand;
 use schedule_unit::{AppNo, MachineNo, RackNo, UnitNo};
 use wait_queue::Entry;
@@ -47,34 +47,48 @@ fn write_want(wish: &mut Wish, demand: &Demand, key: &Key) -> bool
     rises
 }
 
-// Writes a number by machine, where there is a place for it. True where it is 0 and something stood there.
-fn write_number(numbers: &mut [u32], demand: &Demand, key: &Key) -> bool
+// Writes a number by machine, where there is a place for it.
+fn write_near(near: &mut [u32], demand: &Demand, key: &Key)
     requires { key.now.what < 5 }
-    ensures numbers { numbers.new ≡ set numbers.old key.now.number (count key_cmp demand.now.entries key.now) }
-    ensures gone { result ≡ is_gone (get_or numbers.old key.now.number 0) (count key_cmp demand.now.entries key.now) }
+    ensures { near.new ≡ set near.old key.now.number (count key_cmp demand.now.entries key.now) }
 {
-    if key.number as usize >= numbers.len() {
+    let number = key.number as usize;
+    if number < near.len() {
+        near[number] = number_at(demand, key.what, key.unit, key.number);
+    }
+}
+
+// Writes whether a machine is avoided, where it is there. True where it was and is no longer.
+fn write_avoided(avoided: &mut PlaceSet, machines: u32, demand: &Demand, key: &Key) -> bool
+    requires kind { key.now.what ≡ 4 }
+    requires few { machines ≤ 384 }
+    ensures numbers { ones_in machines avoided.new ≡ set (ones_in machines avoided.old) key.now.number (count key_cmp demand.now.entries key.now) }
+    ensures gone { result ≡ is_gone (get_or (ones_in machines avoided.old) key.now.number 0) (count key_cmp demand.now.entries key.now) }
+{
+    if key.number >= machines {
         return false;
     }
-    let number = number_at(demand, key.what, key.unit, key.number);
-    put_number(numbers, key.number, number)
+    let counts = demand.entries();
+    let place = key.number as usize;
+    let before = avoided.contains(place);
+    let now = number_at(demand, AVOID, key.unit, key.number) > 0;
+    avoided.set(place, now);
+    before & !now
 }
 
 // Writes a number by rack, where there is a place for it: nothing where no machine stands there.
-fn write_rack(racks: &mut [u32], cluster: &Cluster, demand: &Demand, key: &Key)
+fn write_rack(racks: &mut [u32; RACKS], cluster: &Cluster, demand: &Demand, key: &Key)
     requires { key.now.what < 5 }
     ensures { racks.new ≡ set racks.old key.now.number (cond (has_rack cluster.now key.now.number) (count key_cmp demand.now.entries key.now) 0) }
 {
-    if key.number as usize >= racks.len() {
+    if key.number as usize >= RACKS {
         return;
     }
     let wanted = number_at(demand, key.what, key.unit, key.number);
-    let number = rack_number(cluster, key.number, wanted);
-    put_number(racks, key.number, number);
+    racks[key.number as usize] = rack_number(cluster, key.number, wanted);
 }
 
 // Writes what a demand asks of a unit at one key. True where it wants more, or no longer avoids a machine.
-#[tactic(auto, using(crate::proofs::AskedParts::parts_fit))]
 fn write_key(wish: &mut Wish, cluster: &Cluster, demand: &Demand, key: &Key) -> bool
     requires near { length (cell_of wish.old).near ≡ length cluster.now.machines }
     requires racks { length (cell_of wish.old).racks ≡ 64 }
@@ -85,18 +99,16 @@ fn write_key(wish: &mut Wish, cluster: &Cluster, demand: &Demand, key: &Key) -> 
     if key.what == WANT {
         return write_want(wish, demand, key);
     }
-    let from = wish.machines as usize;
-    let behind = from + RACKS;
     if key.what == NEAR {
-        write_number(&mut wish.asked[0..from], demand, key);
+        write_near(&mut wish.near, demand, key);
         return false;
     }
     if key.what == RACK {
-        write_rack(&mut wish.asked[from..behind], cluster, demand, key);
+        write_rack(&mut wish.racks, cluster, demand, key);
         return false;
     }
     if key.what == AVOID {
-        return write_number(&mut wish.asked[behind..], demand, key);
+        return write_avoided(&mut wish.avoided, cluster.machines(), demand, key);
     }
     false
 }

@@ -4,11 +4,11 @@ ghost use Rattle.std.specs.Prelude.{◌≡◌, ◌<◌, true, length};
 ghost use Rattle.place_pass.specs.Cells.{cell_of, numbers_at, racks_at, taken};
 
 use crate::sparse::is_clear;
-use crate::wishes::{Wish, Wishes, next_asked, number_at, rack_number};
+use crate::wishes::{RACKS, Wish, Wishes, avoided_by, next_asked, number_at, rack_number};
 use cluster_desc::Cluster;
 use fuxi_terms::Key;
 use fuxi_terms::limits::MOST_RACKS;
-use fuxi_terms::tally_keys::{AVOID, NEAR, RACK, WANT};
+use fuxi_terms::tally_keys::{NEAR, RACK, WANT};
 use party_ledgers::Demand;
 use schedule_unit::{AppNo, UnitNo};
 
@@ -33,40 +33,38 @@ impl Wishes {
 
 // Whether a demand asks of a unit what is asked of it already.
 fn asks_the_same(wish: &Wish, unit: u8, cluster: &Cluster, demand: &Demand) -> bool
-    requires near { length (cell_of wish.now).near ≡ length cluster.now.machines }
-    requires racks { length (cell_of wish.now).racks ≡ 64 }
-    requires avoided { length (cell_of wish.now).avoided ≡ length cluster.now.machines }
+    requires { length (cell_of wish.now).near ≡ length cluster.now.machines }
     ensures { result ≡ true → taken cluster.now demand.now.entries unit (cell_of wish.now) ≡ cell_of wish.now }
 {
     let machines = cluster.machines();
     if number_at(demand, WANT, unit, 0) != wish.want {
         return false;
     }
-    if !has_numbers(wish.near(), machines, demand, NEAR, unit) {
+    if !has_near(&wish.near, machines, demand, unit) {
         return false;
     }
-    if !has_racks(wish.racks(), cluster, demand, unit) {
+    if !has_racks(&wish.racks, cluster, demand, unit) {
         return false;
     }
-    has_numbers(wish.avoided(), machines, demand, AVOID, unit)
+    wish.avoided == avoided_by(demand, unit, machines)
 }
 
-// Whether these are what a demand has of a kind at each machine. The walk goes from one that it names to the next.
-fn has_numbers(numbers: &[u32], machines: u32, demand: &Demand, what: u8, unit: u8) -> bool
-    requires what { what < 5 }
-    requires long { length numbers.now ≡ machines }
-    ensures { result ≡ true → numbers_at demand.now.entries what unit machines ≡ numbers.now }
+// Whether these are what a demand wants on each machine. The walk goes from one that it names to the next.
+fn has_near(near: &[u32], machines: u32, demand: &Demand, unit: u8) -> bool
+    requires { length near.now ≡ machines }
+    ensures { result ≡ true → numbers_at demand.now.entries 2 unit machines ≡ near.now }
 {
     let mut passed = 0;
     let mut next = 0;
     while next < machines {
         let number = next;
+        let what = NEAR;
         let sought = Key { what, unit, number };
         let (machine, number) = next_asked(demand, &mut passed, &sought, machines);
-        if !is_clear(numbers, next, machine) {
+        if !is_clear(near, next, machine) {
             return false;
         }
-        if numbers[machine as usize] != number {
+        if near[machine as usize] != number {
             return false;
         }
         next = machine + 1;
@@ -75,8 +73,7 @@ fn has_numbers(numbers: &[u32], machines: u32, demand: &Demand, what: u8, unit: 
 }
 
 // Whether these are what a demand has at each rack in which a machine stands. The walk goes from one that it names to the next.
-fn has_racks(racks: &[u32], cluster: &Cluster, demand: &Demand, unit: u8) -> bool
-    requires { length racks.now ≡ 64 }
+fn has_racks(racks: &[u32; RACKS], cluster: &Cluster, demand: &Demand, unit: u8) -> bool
     ensures { result ≡ true → racks_at cluster.now demand.now.entries unit ≡ racks.now }
 {
     let mut passed = 0;

@@ -26,10 +26,10 @@ fn least_level(wishes: &Wishes, app: AppNo, unit: UnitNo) -> u8
     ensures { (c : ClusterRecord) (es : Table) (m : ℕ) → result ≤ level_of c (asks_in wishes.now.cells) es app.0 unit.0 m }
 {
     let wish = wishes.wish(app, unit);
-    if !is_clear_to(wish.near(), wishes.cluster().machines()) {
+    if !is_clear_to(&wish.near, wishes.cluster().machines()) {
         return 0;
     }
-    if !is_clear(wish.racks(), 0, MOST_RACKS) {
+    if !is_clear(&wish.racks, 0, MOST_RACKS) {
         return 1;
     }
     2

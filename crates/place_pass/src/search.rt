@@ -144,11 +144,10 @@ impl Wishes {
         if !self.has_room(table, free, app, unit) {
             return false;
         }
-        let wish = self.wish(app, unit);
-        if wish.avoided()[machine.0 as usize] > 0 {
+        if self.avoids(app, unit, machine) {
             return false;
         }
-        if table.held_on(app, unit, machine) >= wish.most {
+        if table.held_on(app, unit, machine) >= self.wish(app, unit).most {
             return false;
         }
         self.is_open(machine)

@@ -47,7 +47,7 @@ impl Wishes {
         ensures { result ≡ is_unmet_on self.now.cells table.now.entries app.0 unit.0 machine.0 }
     {
         let wish = self.wish(app, unit);
-        table.held_on(app, unit, machine) < wish.near()[machine.0 as usize]
+        table.held_on(app, unit, machine) < wish.near[machine.0 as usize]
     }
 
     /// Whether the unit asks for more in the rack than it has there.
@@ -65,7 +65,7 @@ impl Wishes {
         ensures { result ≡ is_unmet_in self.now.cluster self.now.cells table.now.entries app.0 unit.0 rack.0 }
     {
         let wish = self.wish(app, unit);
-        table.held_in_rack(app, unit, rack) < wish.racks()[rack.0 as usize]
+        table.held_in_rack(app, unit, rack) < wish.racks[rack.0 as usize]
     }
 }
 
@@ -90,10 +90,9 @@ fn asks_or_stands_on(tree: &Tree, entry: &Entry, wish: &Wish, machine: MachineNo
     requires waits { (unit_at tree.now entry.now.app.0 entry.now.unit.0).entry ≡ Some entry.now }
     requires machine { machine.0 < length tree.now.racks }
     requires near { machine.0 < length (cell_of wish.now).near }
-    requires racks { length (cell_of wish.now).racks ≡ 64 }
     ensures { result ≡ (nat_lt 0 (get_or (cell_of wish.now).near machine.0 0) || get_or (unit_at tree.now entry.now.app.0 entry.now.unit.0).stands machine.0 false) }
 {
-    if wish.near()[machine.0 as usize] > 0 {
+    if wish.near[machine.0 as usize] > 0 {
         return true;
     }
     tree.stands_on(entry, machine)
@@ -103,10 +102,9 @@ fn asks_or_stands_on(tree: &Tree, entry: &Entry, wish: &Wish, machine: MachineNo
 fn asks_or_stands_within(tree: &Tree, entry: &Entry, wish: &Wish, rack: RackNo) -> bool
     requires waits { (unit_at tree.now entry.now.app.0 entry.now.unit.0).entry ≡ Some entry.now }
     requires rack { rack.0 < 64 }
-    requires racks { length (cell_of wish.now).racks ≡ 64 }
     ensures { result ≡ (nat_lt 0 (get_or (cell_of wish.now).racks rack.0 0) || get_or (unit_at tree.now entry.now.app.0 entry.now.unit.0).stands (rack_place tree.now.racks rack.0) false) }
 {
-    if wish.racks()[rack.0 as usize] > 0 {
+    if wish.racks[rack.0 as usize] > 0 {
         return true;
     }
     tree.stands_within(entry, rack)
@@ -231,7 +229,7 @@ fn enter_machines(tree: &mut Tree, entry: &Entry, wishes: &Wishes, table: &Grant
     ensures near { (m : ℕ) → m < length wishes.now.cluster.machines → get_or (unit_at tree.new entry.now.app.0 entry.now.unit.0).stands m false ≡ is_unmet_on wishes.now.cells table.now.entries entry.now.app.0 entry.now.unit.0 m }
     ensures rest { (place : ℕ) → length wishes.now.cluster.machines ≤ place → get_or (unit_at tree.new entry.now.app.0 entry.now.unit.0).stands place false ≡ get_or (unit_at tree.old entry.now.app.0 entry.now.unit.0).stands place false }
 {
-    let near = wishes.wish(entry.app, entry.unit).near();
+    let near = &wishes.wish(entry.app, entry.unit).near;
     let held = table.counts(entry.app, entry.unit);
     let machines = wishes.cluster().machines();
     let mut number = first_some(near, 0, machines);
@@ -254,12 +252,12 @@ fn enter_racks(tree: &mut Tree, entry: &Entry, wishes: &Wishes, table: &GrantTab
     ensures rest { (place : ℕ) → place < length wishes.now.cluster.machines → get_or (unit_at tree.new entry.now.app.0 entry.now.unit.0).stands place false ≡ get_or (unit_at tree.old entry.now.app.0 entry.now.unit.0).stands place false }
 {
     let wish = wishes.wish(entry.app, entry.unit);
-    let mut number = first_some(wish.racks(), 0, MOST_RACKS);
+    let mut number = first_some(&wish.racks, 0, MOST_RACKS);
     while number < MOST_RACKS {
         let rack = RackNo(number);
         let unmet = wishes.is_unmet_in(table, entry.app, entry.unit, rack);
         enter_within(tree, entry, rack, unmet);
-        number = first_some(wish.racks(), number + 1, MOST_RACKS);
+        number = first_some(&wish.racks, number + 1, MOST_RACKS);
     }
 }
 

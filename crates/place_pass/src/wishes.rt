@@ -1,6 +1,6 @@
 //! What the admitted units are and what is asked of them, by job number and unit, and the machines that are open.
 
-ghost use Rattle.std.specs.Prelude.{◌≡◌, ℕ, ◌+◌, ◌<◌, ◌≤◌, ◌++◌, ◌&&◌, ◌||◌, Bool, T, true, false, nat_eq, nat_lt, min, cond, [], length, set, replicate, IfOk, vec_capacity};
+ghost use Rattle.std.specs.Prelude.{◌≡◌, ℕ, ◌<◌, ◌≤◌, ◌&&◌, T, true, false, not, nat_eq, min, cond, [], length, set, IfOk, vec_capacity};
 ghost use Rattle.std.specs.FinMap.Entries.{is_sorted};
 ghost use Rattle.std.proofs.Common.{get_or};
 ghost use Rattle.std.specs.List.{list_any};
@@ -13,7 +13,8 @@ ghost use Rattle.fuxi_terms.specs.Vectors.{fits};
 ghost use Rattle.std.specs.Ordering.{is_lt};
 ghost use Rattle.fuxi_terms.specs.Lists.{below};
 ghost use Rattle.place_pass.specs.DemandWalks.{IsPast, IsNextAsked};
-ghost use Rattle.place_pass.specs.Cells.{cell_of, cells_in, cells_of, all_cells, cell_at, no_cell, fresh_cells, numbers_at, racks_at, taken, taken_all, is_gone, any_gone, asks_more, any_more};
+ghost use Rattle.place_pass.specs.Cells.{cell_of, cells_in, cells_of, all_cells, cell_at, no_cell, fresh_cells, numbers_at, ones_in, racks_at, taken, taken_all, asks_more, any_more};
+ghost use Rattle.locality_tree.specs.PlaceSets.{in_set};
 
 use crate::changes::write_changes;
 use crate::sparse::is_clear;
@@ -21,6 +22,7 @@ use cluster_desc::Cluster;
 use fuxi_terms::limits::{MOST_JOBS, MOST_RACKS, MOST_UNITS};
 use fuxi_terms::tally_keys::{AVOID, NEAR, RACK, WANT};
 use fuxi_terms::{Key, OutOfMemory};
+use locality_tree::PlaceSet;
 use party_ledgers::Demand;
 use res_vector::{Res, fits};
 use schedule_unit::{AppNo, GroupNo, Job, MachineNo, RackNo, UnitNo};
@@ -42,39 +44,12 @@ pub(crate) struct Wish {
     pub(crate) most: u32,
     pub(crate) group: GroupNo,
     pub(crate) want: u32,
-    /// How many machines the cluster has.
-    pub(crate) machines: u32,
-    /// How many grants are wanted by machine, then by rack, and then by machine 1 where it is avoided.
-    pub(crate) asked: Vec<u32>,
-}
-
-impl Wish {
     /// How many grants are wanted, by machine.
-    pub(crate) fn near(&self) -> &[u32]
-        requires { length (cell_of self.now).racks ≡ 64 }
-        ensures { result.now ≡ (cell_of self.now).near }
-    {
-        &self.asked[..self.machines as usize]
-    }
-
+    pub(crate) near: Vec<u32>,
     /// How many grants are wanted, by rack.
-    #[tactic(auto, using(crate::proofs::AskedParts::parts_fit))]
-    pub(crate) fn racks(&self) -> &[u32]
-        requires { length (cell_of self.now).racks ≡ 64 }
-        ensures { result.now ≡ (cell_of self.now).racks }
-    {
-        let from = self.machines as usize;
-        &self.asked[from..from + RACKS]
-    }
-
-    /// By machine, 1 where it is avoided.
-    #[tactic(auto, using(crate::proofs::AskedParts::parts_fit))]
-    pub(crate) fn avoided(&self) -> &[u32]
-        requires { length (cell_of self.now).racks ≡ 64 }
-        ensures { result.now ≡ (cell_of self.now).avoided }
-    {
-        &self.asked[self.machines as usize + RACKS..]
-    }
+    pub(crate) racks: [u32; RACKS],
+    /// The machines that are avoided.
+    pub(crate) avoided: PlaceSet,
 }
 
 /// The admitted units with what is asked of them, and the open machines.
@@ -210,12 +185,10 @@ impl Wishes {
         requires { unit.0 < length (get_or self.now.cells app.0 []) }
         ensures { result ≡ nat_lt 0 (asks_in self.now.cells app.0 (avoid_key unit.0 machine.0)) }
     {
-        let avoided = self.wish(app, unit).avoided();
-        let number = machine.0 as usize;
-        if number >= avoided.len() {
+        if machine.0 >= self.cluster().machines() {
             return false;
         }
-        avoided[number] > 0
+        self.wish(app, unit).avoided.contains(machine.0 as usize)
     }
 
     /// Whether there is such a unit and machine, the machine is open, and the unit does not avoid it.
@@ -228,19 +201,19 @@ impl Wishes {
         if !self.is_open(machine) {
             return false;
         }
-        self.wish(app, unit).avoided()[machine.0 as usize] == 0
+        !self.avoids(app, unit, machine)
     }
 
     // Whether a unit of the job that may differ avoids a machine.
     fn avoids_any(&self, app: AppNo, differing: &[bool; 8]) -> bool
         ensures { result ≡ false → (u m : ℕ) → u < length (get_or self.now.cells app.0 []) → get_or differing.now u true ≡ true → get_or (cell_at self.now.cells app.0 u).avoided m 0 ≡ 0 }
     {
-        let machines = self.cluster().machines();
+        let machines = self.cluster().machines() as usize;
         for number in 0..self.units(app) as u8 {
             if !may_differ(differing, number) {
                 continue;
             }
-            if !is_clear(self.wish(app, UnitNo(number)).avoided(), 0, machines) {
+            if self.wish(app, UnitNo(number)).avoided.next(0) < machines {
                 return true;
             }
         }
@@ -265,8 +238,7 @@ impl Wishes {
             if !may_differ(differing, number) {
                 continue;
             }
-            let wish = self.wish(app, UnitNo(number));
-            if wish.avoided()[machine.0 as usize] == 0 {
+            if !self.avoids(app, UnitNo(number), machine) {
                 continue;
             }
             if number_at(demand, AVOID, number, machine.0) == 0 {
@@ -297,7 +269,6 @@ impl Wishes {
     pub(crate) fn wish(&self, app: AppNo, unit: UnitNo) -> &Wish
         requires { unit.0 < length (get_or self.now.cells app.0 []) }
         ensures cell { cell_of result.now ≡ cell_at self.now.cells app.0 unit.0 }
-        ensures racks { length (cell_of result.now).racks ≡ 64 }
         ensures sound { AreWishes self.now.cluster self.now.cells self.now.opened }
     {
         wish_at(&self.slots, app.0 as usize, unit.0 as usize)
@@ -347,15 +318,6 @@ fn wish_at(slots: &[Vec<Wish>], app: usize, unit: usize) -> &Wish
     &units[unit]
 }
 
-// Nothing is wanted on a machine or in a rack, and no machine is avoided.
-fn nothing_asked(alloc: Global, machines: u32) -> Result<Vec<u32>, OutOfMemory>
-    ensures { IfOk result (λ asked. asked.items ≡ replicate (machines + 64) 0 ++ replicate machines 0) }
-{
-    let wanted = machines as usize + RACKS;
-    let all = wanted + machines as usize;
-    Ok(Vec::from_elem(alloc, 0, all)?)
-}
-
 /// The units of a new job, of which nothing is asked.
 pub(crate) fn fresh_units(alloc: Global, job: &Job, machines: u32) -> Result<Vec<Wish>, OutOfMemory>
     ensures { IfOk result (λ units. cells_in units ≡ fresh_cells job.now.group machines job.now.units) }
@@ -367,15 +329,16 @@ pub(crate) fn fresh_units(alloc: Global, job: &Job, machines: u32) -> Result<Vec
         let priority = unit.priority;
         let size = unit.size;
         let most = unit.most;
-        let asked = nothing_asked(alloc, machines)?;
+        let near = Vec::from_elem(alloc, 0, machines as usize)?;
         units.push(Wish {
             priority,
             size,
             most,
             group,
             want: 0,
-            machines,
-            asked,
+            near,
+            racks: [0; RACKS],
+            avoided: PlaceSet::new(),
         })?;
     }
     Ok(units)
@@ -406,8 +369,6 @@ fn take_over(
 ) -> bool
     requires few { length units.old.items ≤ 8 }
     requires near { (u : ℕ) → u < length units.old.items → length (get_or (cells_in units.old) u no_cell).near ≡ length cluster.now.machines }
-    requires racks { (u : ℕ) → u < length units.old.items → length (get_or (cells_in units.old) u no_cell).racks ≡ 64 }
-    requires avoided { (u : ℕ) → u < length units.old.items → length (get_or (cells_in units.old) u no_cell).avoided ≡ length cluster.now.machines }
     requires same { (u : ℕ) → u < length units.old.items → get_or differing.now u true ≡ false → taken cluster.now demand.now.entries u (get_or (cells_in units.old) u no_cell) ≡ get_or (cells_in units.old) u no_cell }
     ensures cells { cells_in units.new ≡ taken_all cluster.now demand.now.entries 0 (cells_in units.old) }
     ensures more { result ≡ any_more cluster.now demand.now.entries (cells_in units.old) (length units.old.items) }
@@ -425,11 +386,8 @@ fn take_over(
 }
 
 // A unit takes its part of the demand. True where it wants more, or no longer avoids a machine.
-#[tactic(auto, using(crate::proofs::AskedParts::parts_fit))]
 fn take_one(wish: &mut Wish, unit: u8, cluster: &Cluster, demand: &Demand) -> bool
-    requires near { length (cell_of wish.old).near ≡ length cluster.now.machines }
-    requires racks { length (cell_of wish.old).racks ≡ 64 }
-    requires avoided { length (cell_of wish.old).avoided ≡ length cluster.now.machines }
+    requires { length (cell_of wish.old).near ≡ length cluster.now.machines }
     ensures cell { cell_of wish.new ≡ taken cluster.now demand.now.entries unit (cell_of wish.old) }
     ensures more { result ≡ asks_more cluster.now demand.now.entries unit (cell_of wish.old) }
 {
@@ -437,11 +395,11 @@ fn take_one(wish: &mut Wish, unit: u8, cluster: &Cluster, demand: &Demand) -> bo
     let want = number_at(demand, WANT, unit, 0);
     let rises = wish.want < want;
     wish.want = want;
-    let from = wish.machines as usize;
-    let behind = from + RACKS;
-    read_numbers(&mut wish.asked[0..from], machines, demand, NEAR, unit);
-    read_racks(&mut wish.asked[from..behind], cluster, demand, unit);
-    let lifted = read_numbers(&mut wish.asked[behind..], machines, demand, AVOID, unit);
+    read_near(&mut wish.near, machines, demand, unit);
+    read_racks(&mut wish.racks, cluster, demand, unit);
+    let avoided = avoided_by(demand, unit, machines);
+    let lifted = is_lifted(&wish.avoided, &avoided, machines);
+    wish.avoided = avoided;
     rises || lifted
 }
 
@@ -452,13 +410,6 @@ pub(crate) fn number_at(demand: &Demand, what: u8, unit: u8, number: u32) -> u32
 {
     let counts = demand.entries();
     demand.get(&Key { what, unit, number }) as u32
-}
-
-// Whether nothing is left of a number.
-fn is_gone(before: u32, now: u32) -> bool
-    ensures { result ≡ (nat_lt 0 before && nat_eq now 0) }
-{
-    before > 0 && now == 0
 }
 
 // The place behind the entries that stand before the key, found by halves.
@@ -538,62 +489,78 @@ pub(crate) fn next_asked(demand: &Demand, passed: &mut usize, sought: &Key, end:
     (found.number, number as u32)
 }
 
-// Writes a number. True where it is 0 and something stood there.
-pub(crate) fn put_number(numbers: &mut [u32], place: u32, number: u32) -> bool
-    requires { place < length numbers.old }
-    ensures numbers { numbers.new ≡ set numbers.old place number }
-    ensures gone { result ≡ is_gone (get_or numbers.old place 0) number }
-{
-    let gone = is_gone(numbers[place as usize], number);
-    numbers[place as usize] = number;
-    gone
-}
-
-// Writes 0 from one place on to another. True where something stood there.
-fn clear_numbers(numbers: &mut [u32], from: u32, to: u32) -> bool
+// Writes 0 from one place on to another.
+fn clear_numbers(numbers: &mut [u32], from: u32, to: u32)
     requires order { from ≤ to }
     requires inside { to ≤ length numbers.old }
     ensures long { length numbers.new ≡ length numbers.old }
     ensures zero { (k : ℕ) → from ≤ k → k < to → get_or numbers.new k 0 ≡ 0 }
     ensures before { (k : ℕ) → k < from → get_or numbers.new k 0 ≡ get_or numbers.old k 0 }
     ensures behind { (k : ℕ) → to ≤ k → get_or numbers.new k 0 ≡ get_or numbers.old k 0 }
-    ensures gone { (f : ℕ → Bool) → ((k : ℕ) → from ≤ k → k < to → f k ≡ is_gone (get_or numbers.old k 0) 0) → list_any f (below to) ≡ (list_any f (below from) || result) }
 {
     if is_clear(numbers, from, to) {
-        return false;
+        return;
     }
-    let mut gone = false;
     for place in from..to {
-        let one = put_number(numbers, place, 0);
-        gone |= one;
+        numbers[place as usize] = 0;
     }
-    gone
 }
 
-// What a demand has of a kind at each machine, from one that it names to the next. True where it has nothing at one that had a number.
-fn read_numbers(numbers: &mut [u32], machines: u32, demand: &Demand, what: u8, unit: u8) -> bool
-    requires what { what < 5 }
-    requires long { length numbers.old ≡ machines }
-    ensures numbers { numbers.new ≡ numbers_at demand.now.entries what unit machines }
-    ensures gone { result ≡ any_gone demand.now.entries what unit numbers.old machines }
+// What a demand wants on each machine, from one that it names to the next.
+fn read_near(near: &mut [u32], machines: u32, demand: &Demand, unit: u8)
+    requires { length near.old ≡ machines }
+    ensures { near.new ≡ numbers_at demand.now.entries 2 unit machines }
 {
     let mut passed = 0;
-    let mut gone = false;
     let mut next = 0;
     while next < machines {
         let sought = Key {
-            what,
+            what: NEAR,
             unit,
             number: next,
         };
         let (machine, number) = next_asked(demand, &mut passed, &sought, machines);
-        let before = clear_numbers(numbers, next, machine);
-        let here = put_number(numbers, machine, number);
-        gone |= before;
-        gone |= here;
+        clear_numbers(near, next, machine);
+        near[machine as usize] = number;
         next = machine + 1;
     }
-    gone
+}
+
+/// The machines that a unit avoids by a demand, which is walked from one that it names to the next.
+pub(crate) fn avoided_by(demand: &Demand, unit: u8, machines: u32) -> PlaceSet
+    requires { machines ≤ 384 }
+    ensures { ones_in machines result ≡ numbers_at demand.now.entries 4 unit machines }
+{
+    let counts = demand.entries();
+    let mut avoided = PlaceSet::new();
+    let mut passed = 0;
+    let mut next = 0;
+    while next < machines {
+        let sought = Key {
+            what: AVOID,
+            unit,
+            number: next,
+        };
+        let (machine, number) = next_asked(demand, &mut passed, &sought, machines);
+        avoided.set(machine as usize, number > 0);
+        next = machine + 1;
+    }
+    avoided
+}
+
+// Whether a machine that was avoided is no longer.
+fn is_lifted(before: &PlaceSet, now: &PlaceSet, machines: u32) -> bool
+    requires { machines ≤ 384 }
+    ensures { result ≡ list_any (λ m. in_set before.now m && not (in_set now.now m)) (below machines) }
+{
+    let mut at = before.next(0);
+    while at < machines as usize {
+        if !now.contains(at) {
+            return true;
+        }
+        at = before.next(at + 1);
+    }
+    false
 }
 
 // What is wanted in a rack: nothing where no machine stands there.
@@ -611,8 +578,7 @@ pub(crate) fn rack_number(cluster: &Cluster, rack: u32, wanted: u32) -> u32
 }
 
 // What a demand has at each rack in which a machine stands, from one that it names to the next.
-fn read_racks(racks: &mut [u32], cluster: &Cluster, demand: &Demand, unit: u8)
-    requires { length racks.old ≡ 64 }
+fn read_racks(racks: &mut [u32; RACKS], cluster: &Cluster, demand: &Demand, unit: u8)
     ensures { racks.new ≡ racks_at cluster.now demand.now.entries unit }
 {
     let mut passed = 0;
@@ -626,7 +592,7 @@ fn read_racks(racks: &mut [u32], cluster: &Cluster, demand: &Demand, unit: u8)
         let (rack, wanted) = next_asked(demand, &mut passed, &sought, MOST_RACKS);
         let number = rack_number(cluster, rack, wanted);
         clear_numbers(racks, next, rack);
-        put_number(racks, rack, number);
+        racks[rack as usize] = number;
         next = rack + 1;
     }
 }

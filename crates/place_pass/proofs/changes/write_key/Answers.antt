@@ -1,56 +1,50 @@
-use Rattle.std.proofs.Common.{◌≡◌, length, set, length-set, get_or, sym, ◌∙◌, ap, subst, cond}
-use Rattle.fuxi_terms.specs.Cluster.{has_rack}
+use Rattle.std.proofs.Common.{◌≡◌, ℕ, List, length, length-set, set, get_or, sym, ◌∙◌, ap, subst}
+use Rattle.std.specs.Vec.{with_items}
+use Rattle.std.proofs.lemmas.List.{with_items_is}
 use Rattle.fuxi_terms.specs.Counts.{count}
 use Rattle.fuxi_terms.specs.Keys.{key_cmp}
-use Rattle.place_pass.specs.Cells.{cell_of, is_gone, near_in, racks_in, avoided_in}
+use Rattle.place_pass.specs.declared.wishes.Wish.{Wish}
+use Rattle.place_pass.specs.Cells.{cell_of, is_gone, ones_in}
 use Rattle.place_pass.specs.DemandScopes.{IsWritten}
-use Rattle.place_pass.proofs.AskedParts.{near_lent, racks_lent, avoided_lent, near_put, racks_put, avoided_put}
 use Rattle.place_pass.proofs.DemandScopesLemmas.{near_written, rack_written, avoid_written, avoid_more}
 use Rattle.place_pass.proofs.changes.write_key.Goals as goal
+use Rattle.place_pass.proofs.changes.write_key.Goals.{After-write_avoided}
+
+-- a unit of which the numbers by machine are written
+near_put : (w : Wish) (ns : List ℕ) → length ns ≡ length w.near.items → cell_of (record w { near = with_items w.near ns }) ≡ record (cell_of w) { near = ns }
+near_put w ns long =
+    let is : (with_items w.near ns).items ≡ ns = with_items_is w.near ns (long ∙ sym w.near.ok.0) in
+    λ i. record { unit = (cell_of w).unit; group = (cell_of w).group; want = w.want; near = is i; racks = w.racks; avoided = ones_in ((ap length is ∙ long) i) w.avoided }
 
 pub returns-then-key-eq-NEAR-clause-cell : goal.returns-then-key-eq-NEAR-clause-cell
 returns-then-key-eq-NEAR-clause-cell c =
     let w = c.args.wish.now in
     let k = c.args.key.now in
     let es = c.args.demand.now.entries in
-    let d = c.deref_mut.result.now in
-    let same = c.deref_mut.ensures.value in
-    let ys = c.write_number.new.numbers in
-    let is : ys ≡ set (near_in w.machines w.asked.items) k.number (count key_cmp es k) = c.write_number.ensures.numbers ∙ ap (λ xs. set xs k.number (count key_cmp es k)) (near_lent w.machines d w.asked.items same) in
-    subst (IsWritten c.args.cluster.now es k (cell_of w)) (sym (near_put w d ys same c.requires.racks (ap length is ∙ length-set (near_in w.machines w.asked.items) k.number (count key_cmp es k))))
-    (near_written c.args.cluster.now es k (cell_of w) c.if-key-eq-NEAR.true c.requires.near ys is)
+    let ns = c.write_near.new.near in
+    let is : ns ≡ set w.near.items k.number (count key_cmp es k) = c.write_near.ensures ∙ ap (λ xs. set xs k.number (count key_cmp es k)) c.deref_mut.ensures.value in
+    subst (IsWritten c.args.cluster.now es k (cell_of w)) (sym (near_put w ns (ap length is ∙ length-set w.near.items k.number (count key_cmp es k))))
+    (near_written c.args.cluster.now es k (cell_of w) c.if-key-eq-NEAR.true c.requires.near ns is)
 
 pub returns-then-key-eq-RACK-clause-cell : goal.returns-then-key-eq-RACK-clause-cell
-returns-then-key-eq-RACK-clause-cell c =
-    let w = c.args.wish.now in
-    let k = c.args.key.now in
-    let es = c.args.demand.now.entries in
-    let d = c.deref_mut-then-key-eq-RACK.result.now in
-    let same = c.deref_mut-then-key-eq-RACK.ensures.value in
-    let ys = c.write_rack.new.racks in
-    let number = cond (has_rack c.args.cluster.now k.number) (count key_cmp es k) 0 in
-    let is : ys ≡ set (racks_in w.machines w.asked.items) k.number number = c.write_rack.ensures ∙ ap (λ xs. set xs k.number number) (racks_lent w.machines d w.asked.items same) in
-    subst (IsWritten c.args.cluster.now es k (cell_of w)) (sym (racks_put w d ys same c.requires.racks (ap length is ∙ length-set (racks_in w.machines w.asked.items) k.number number ∙ c.requires.racks)))
-    (rack_written c.args.cluster.now es k (cell_of w) c.if-key-eq-RACK.true c.requires.racks ys is)
+returns-then-key-eq-RACK-clause-cell c = rack_written c.args.cluster.now c.args.demand.now.entries c.args.key.now (cell_of c.args.wish.now) c.if-key-eq-RACK.true c.requires.racks c.write_rack.new.racks c.write_rack.ensures
+
+-- the cluster has as many machines as the unit has numbers
+wide : (c : After-write_avoided) → c.machines.result ≡ length c.args.wish.now.near.items
+wide c = c.machines.ensures.number ∙ sym c.requires.near
 
 pub returns-then-key-eq-AVOID-clause-cell : goal.returns-then-key-eq-AVOID-clause-cell
 returns-then-key-eq-AVOID-clause-cell c =
     let w = c.args.wish.now in
     let k = c.args.key.now in
     let es = c.args.demand.now.entries in
-    let d = c.deref_mut-then-key-eq-AVOID.result.now in
-    let same = c.deref_mut-then-key-eq-AVOID.ensures.value in
-    let ys = c.write_number-then-key-eq-AVOID.new.numbers in
-    let is : ys ≡ set (avoided_in w.machines w.asked.items) k.number (count key_cmp es k) = c.write_number-then-key-eq-AVOID.ensures.numbers ∙ ap (λ xs. set xs k.number (count key_cmp es k)) (avoided_lent w.machines d w.asked.items same) in
-    subst (IsWritten c.args.cluster.now es k (cell_of w)) (sym (avoided_put w d ys same c.requires.racks (ap length is ∙ length-set (avoided_in w.machines w.asked.items) k.number (count key_cmp es k))))
-    (avoid_written c.args.cluster.now es k (cell_of w) c.if-key-eq-AVOID.true c.requires.avoided ys is)
+    avoid_written c.args.cluster.now es k (cell_of w) c.if-key-eq-AVOID.true c.requires.avoided (ones_in (length w.near.items) c.write_avoided.new.avoided)
+    (subst (λ n. ones_in n c.write_avoided.new.avoided ≡ set (ones_in n w.avoided) k.number (count key_cmp es k)) (wide c) c.write_avoided.ensures.numbers)
 
 pub returns-then-key-eq-AVOID-clause-more : goal.returns-then-key-eq-AVOID-clause-more
 returns-then-key-eq-AVOID-clause-more c =
     let w = c.args.wish.now in
     let k = c.args.key.now in
     let es = c.args.demand.now.entries in
-    let d = c.deref_mut-then-key-eq-AVOID.result.now in
-    c.write_number-then-key-eq-AVOID.ensures.gone
-    ∙ ap (λ xs. is_gone (get_or xs k.number 0) (count key_cmp es k)) (avoided_lent w.machines d w.asked.items c.deref_mut-then-key-eq-AVOID.ensures.value)
+    c.write_avoided.ensures.gone ∙ ap (λ n. is_gone (get_or (ones_in n w.avoided) k.number 0) (count key_cmp es k)) (wide c)
     ∙ avoid_more c.args.cluster.now es k (cell_of w) c.if-key-eq-AVOID.true c.requires.avoided

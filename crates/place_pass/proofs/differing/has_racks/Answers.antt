@@ -23,7 +23,7 @@ loop-next-preserved c =
     let n = c.loop-next.next in
     let m = c.next_asked-rack.result.0 in
     let x = c.next_asked-rack.ensures in
-    let wide : m < length racks = let inside = x.inside in let all = c.requires in omega (arith, inside, all) in
+    let wide : m < length racks = let inside = x.inside in omega (arith, inside) in
     let here : get_or racks m 0 ≡ c.rack_number-number.result = search rules in
     record {
       within = let inside = x.inside in omega (arith, inside);
@@ -40,7 +40,7 @@ loop-next-preserved c =
 pub returns : goal.returns
 returns c e =
     let f : ℕ → ℕ = λ r. cond (has_rack c.args.cluster.now r) (count key_cmp c.args.demand.now.entries (rack_key c.args.unit r)) 0 in
-    let n = c.requires in
+    let n : length c.args.racks.now ≡ 64 = search rules in
     let all = counted_long f 64 in
     let end = c.loop-next-test.false in
     ext_get_or 0 (racks_at c.args.cluster.now c.args.demand.now.entries c.args.unit) c.args.racks.now (omega (arith, n, all))

@@ -1,6 +1,7 @@
 use Rattle.std.proofs.Common.{◌≡◌, ◌<◌, false, nat_lt, length, get_or, refl, sym, ◌∙◌, ap, subst, arith, inl, inr}
 use Rattle.std.specs.Prelude.{◌||◌}
 use Rattle.std.proofs.lemmas.Bool.{cases_eq, cases_lt}
+use Rattle.std.proofs.lemmas.Grind.{get_or_default_zero}
 use Rattle.fuxi_terms.specs.Cluster.{ClusterRecord}
 use Rattle.fuxi_terms.specs.Tables.{held_on}
 use Rattle.fuxi_terms.specs.TallyKeys.{near_key}
@@ -27,9 +28,10 @@ loop-number-preserved c =
     let n = c.loop-number.number in
     let t = c.loop-number.tree in
     let t' = c.enter_on.new.tree in
-    let unmet = nat_lt (get_or c.counts-held.result.now n 0) (get_or c.near-near.result.now n 0) in
+    let near = c.wish.result.now.near.items in
+    let unmet = nat_lt (get_or c.counts-held.result.now n 0) c.index.result.now in
     let unmet_is : unmet ≡ is_unmet_on w.cells es e.app.0 e.unit.0 n =
-    ap (λ h. nat_lt h (get_or c.near-near.result.now n 0)) (c.counts-held.ensures.is n) ∙ ap (λ ns. nat_lt (held_on es e.app.0 e.unit.0 n) (get_or ns n 0)) c.near-near.ensures ∙ ap (λ (x : Cell). nat_lt (held_on es e.app.0 e.unit.0 n) (get_or x.near n 0)) c.wish.ensures.cell in
+    ap (λ h. nat_lt h c.index.result.now) (c.counts-held.ensures.is n) ∙ ap (nat_lt (held_on es e.app.0 e.unit.0 n)) (c.index.ensures ∙ get_or_default_zero near n c.index.result.now (let wide = (c.wish.ensures.sound.unit e.app.0 e.unit.0 c.requires.here).near in let long = ap (λ (x : Cell). length x.near) c.wish.ensures.cell in let lt = c.loop-number-test.true in let m = c.machines-machines.ensures.number in let same = ap (λ (x : ClusterRecord). length x.machines) c.cluster.ensures.cluster in omega (arith, wide, long, lt, m, same))) ∙ ap (λ (x : Cell). nat_lt (held_on es e.app.0 e.unit.0 n) (get_or x.near n 0)) c.wish.ensures.cell in
     let i = c.loop-number.invariant in
     let test = c.loop-number-test.true in
     let end = c.machines-machines.ensures.number in
@@ -50,7 +52,7 @@ loop-number-preserved c =
           | inl less ↦ i.near m less
           | inr ge ↦
               let asked = asks_in w.cells e.app.0 (near_key e.unit.0 m) in
-              let none : asked ≡ 0 = ap (λ (x : Cell). get_or x.near m 0) (sym c.wish.ensures.cell) ∙ ap (λ ns. get_or ns m 0) (sym c.near-near.ensures) ∙ next.passed m (omega (arith, ge, d)) lt in
+              let none : asked ≡ 0 = ap (λ (x : Cell). get_or x.near m 0) (sym c.wish.ensures.cell) ∙ ap (λ ns. get_or ns m 0) (sym c.deref-in-loop-number.ensures.value) ∙ next.passed m (omega (arith, ge, d)) lt in
               let stands = i.ahead m (omega (arith, ge)) ∙ c.requires.nowhere m (omega (arith, lt, last, end, k)) in
               stands_unasked asked (held_on es e.app.0 e.unit.0 m) (get_or (unit_at t e.app.0 e.unit.0).stands m false) (λ j. nat_lt 0 (none j) || stands j)
         ]

@@ -44,7 +44,7 @@ loop-number-preserved c =
           | inl less ↦ i.racks r less
           | inr ge ↦
               let asked = asks_in w.cells a (rack_key u r) in
-              let none : asked ≡ 0 = ap (λ (x : Cell). get_or x.racks r 0) (sym c.wish-wish.ensures.cell) ∙ ap (λ ns. get_or ns r 0) (sym c.racks-in-loop-number.ensures) ∙ next.passed r (omega (arith, ge, d)) lt in
+              let none : asked ≡ 0 = ap (λ (x : Cell). get_or x.racks r 0) (sym c.wish-wish.ensures.cell) ∙ next.passed r (omega (arith, ge, d)) lt in
               let stands = i.ahead r (omega (arith, ge)) (omega (arith, lt, last)) in
               stands_unasked asked (held_in w.cluster es a u r) (get_or (unit_at t a u).stands (rack_place t.racks r) false) (λ j. nat_lt 0 (none j) || stands j)
         ]

@@ -1,4 +1,4 @@
-use Rattle.std.proofs.Common.{◌≡◌, ◌<◌, ℕ, false, nat_lt, length, get_or, refl, sym, ◌∙◌, ap, subst, arith, inl, inr}
+use Rattle.std.proofs.Common.{◌≡◌, ◌<◌, ℕ, false, nat_lt, get_or, refl, sym, ◌∙◌, ap, subst, arith, inl, inr}
 use Rattle.std.specs.Prelude.{◌||◌}
 use Rattle.std.proofs.lemmas.Bool.{cases_eq}
 use Rattle.fuxi_terms.specs.Tables.{held_in}
@@ -20,13 +20,6 @@ loop-number-init c = record {
 
 pub asks_or_stands_within-requires-clause-waits : goal.asks_or_stands_within-requires-clause-waits
 asks_or_stands_within-requires-clause-waits c = c.loop-number.invariant.waits.entry
-
-pub asks_or_stands_within-requires-clause-racks : goal.asks_or_stands_within-requires-clause-racks
-asks_or_stands_within-requires-clause-racks c =
-    let t = c.loop-number-test.true in
-    let w = (c.wish-wish.ensures.sound.unit c.args.entry.now.app.0 c.args.entry.now.unit.0 c.requires.here).racks in
-    let n = ap (λ (x : Cell). length x.racks) c.wish-wish.ensures.cell in
-    omega (arith, t, w, n)
 
 -- a rack for which it does not ask, and in which it does not stand, is passed
 pub loop-number-preserved-then-not-asks_or_stands_within : goal.loop-number-preserved-then-not-asks_or_stands_within

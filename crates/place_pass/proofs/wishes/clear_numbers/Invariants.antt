@@ -1,8 +1,4 @@
-use Rattle.std.proofs.Common.{◌≡◌, ℕ, ◌<◌, ◌≤◌, Bool, length, get_or}
-use Rattle.std.specs.Prelude.{◌||◌}
-use Rattle.std.specs.List.{list_any}
-use Rattle.fuxi_terms.specs.Lists.{below}
-use Rattle.place_pass.specs.Cells.{is_gone}
+use Rattle.std.proofs.Common.{◌≡◌, ℕ, ◌<◌, ◌≤◌, length, get_or}
 use Rattle.place_pass.proofs.wishes.clear_numbers.Given as goal
 
 abbrev pub invariant-loop-place : goal.invariant-loop-place
@@ -13,5 +9,4 @@ invariant-loop-place l = record {
   zero : (k : ℕ) → l.from ≤ k → k < l.place → get_or l.numbers k 0 ≡ 0;
   before : (k : ℕ) → k < l.from → get_or l.numbers k 0 ≡ get_or l.initial.numbers k 0;
   behind : (k : ℕ) → l.place ≤ k → get_or l.numbers k 0 ≡ get_or l.initial.numbers k 0;
-  gone : (f : ℕ → Bool) → ((k : ℕ) → l.from ≤ k → k < l.place → f k ≡ is_gone (get_or l.initial.numbers k 0) 0) → list_any f (below l.place) ≡ (list_any f (below l.from) || l.gone);
 }

@@ -1,4 +1,4 @@
-use Rattle.std.proofs.Common.{◌≡◌, ◌≢◌, ◌+◌, ◌<◌, ℕ, cond, length, length-set, get_or, sym, ap, subst, ◌∙◌, arith, inl, inr}
+use Rattle.std.proofs.Common.{◌≡◌, ◌≢◌, ◌+◌, ◌<◌, ℕ, cond, length, length-set, set, get_or, sym, ap, subst, ◌∙◌, arith, inl, inr}
 use Rattle.std.proofs.lemmas.Bool.{cases_eq, cases_lt}
 use Rattle.std.proofs.lemmas.List.{ext_get_or, get_or-set_same, get_or-set_other}
 use Rattle.fuxi_terms.specs.Cluster.{has_rack}
@@ -25,15 +25,14 @@ loop-next-preserved c =
     let x = c.next_asked-rack.ensures in
     let least = x.least in
     let a = c.clear_numbers.new.numbers in
-    let b = c.put_number.new.numbers in
+    let b = set a m number in
     let clear = c.clear_numbers.ensures in
-    let is = c.put_number.ensures.numbers in
     let wide : m < length a = let inside = x.inside in let long = i.long in let kept = clear.long in omega (arith, inside, long, kept) in
-    let here : get_or b m 0 ≡ f m = ap (λ xs. get_or xs m 0) is ∙ get_or-set_same a m number 0 wide ∙ c.rack_number-number.ensures ∙ ap (λ z. cond (has_rack c.args.cluster.now m) z 0) x.asked in
-    let other : (k : ℕ) → k ≢ m → get_or b k 0 ≡ get_or a k 0 = λ k d. ap (λ xs. get_or xs k 0) is ∙ get_or-set_other a m k number 0 d in
+    let here : get_or b m 0 ≡ f m = get_or-set_same a m number 0 wide ∙ c.rack_number-number.ensures ∙ ap (λ z. cond (has_rack c.args.cluster.now m) z 0) x.asked in
+    let other : (k : ℕ) → k ≢ m → get_or b k 0 ≡ get_or a k 0 = λ k d. get_or-set_other a m k number 0 d in
     record {
       within = let inside = x.inside in omega (arith, inside);
-      long = ap length is ∙ length-set a m number ∙ clear.long ∙ i.long;
+      long = length-set a m number ∙ clear.long ∙ i.long;
       done = λ k lt. elim (cases_lt k n) as (λ _. get_or b k 0 ≡ f k) [
         | inl l ↦ other k (omega (arith, l, least)) ∙ clear.before k l ∙ i.done k l
         | inr ge ↦ elim (cases_eq k m) as (λ _. get_or b k 0 ≡ f k) [

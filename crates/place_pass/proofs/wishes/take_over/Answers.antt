@@ -26,14 +26,8 @@ read_is c =
 there_is : (c : goal.After-index_mut-wish) → c.loop-number.number < length c.args.units.now.items
 there_is c = let lt = c.loop-number-test.true in let end = c.len-number-end.ensures in omega (arith, lt, end)
 
-pub take_one-one-requires-clause-near : goal.take_one-one-requires-clause-near
-take_one-one-requires-clause-near c = ap (λ (x : Cell). length x.near) (read_is c) ∙ c.requires.near c.loop-number.number (there_is c)
-
-pub take_one-one-requires-clause-racks : goal.take_one-one-requires-clause-racks
-take_one-one-requires-clause-racks c = ap (λ (x : Cell). length x.racks) (read_is c) ∙ c.requires.racks c.loop-number.number (there_is c)
-
-pub take_one-one-requires-clause-avoided : goal.take_one-one-requires-clause-avoided
-take_one-one-requires-clause-avoided c = ap (λ (x : Cell). length x.avoided) (read_is c) ∙ c.requires.avoided c.loop-number.number (there_is c)
+pub take_one-one-requires : goal.take_one-one-requires
+take_one-one-requires c = ap (λ (x : Cell). length x.near) (read_is c) ∙ c.requires.near c.loop-number.number (there_is c)
 
 -- the demand asks the same of the unit
 pub loop-number-preserved-then-not-differing-number : goal.loop-number-preserved-then-not-differing-number

@@ -3,7 +3,6 @@ use Rattle.written_roles.specs.Placing.{has_pair}
 use Rattle.place_pass.specs.Bounds.{MarkRecord, reset_mark, Rises, turn_at}
 use Rattle.place_pass.proofs.FirstByTurn.{rising}
 use Rattle.place_pass.proofs.CellsMatchTable.{few_machines}
-use Rattle.place_pass.proofs.Places.{zeros}
 use Rattle.std.specs.Prelude.{◌&&◌, replicate}
 use Rattle.std.proofs.lemmas.Bool.Decides.{nat_tests}
 use Rattle.std.proofs.lemmas.List.{length-replicate}
@@ -29,7 +28,7 @@ none_below : (u : ℕ) (some : Bool) → false ≡ (nat_lt u 0 && some)
 none_below u some = ap (λ b. b && some) (let f : false ≡ nat_lt u 0 = grind (arith, nat_tests) in f)
 
 zero_at : (xs : List ℕ) (n : ℕ) → xs ≡ replicate n 0 → (i : ℕ) → get_or xs i 0 ≡ 0
-zero_at xs n e i = ap (λ ys. get_or ys i 0) e ∙ zeros n i
+zero_at xs n e i = ap (λ ys. get_or ys i 0) e ∙ repeated_at {A = ℕ} 0 n i
 
 pub new-requires : goal.new-requires
 new-requires c = let few = few_machines c.args.cluster.now c.machines.ensures.valid in let number = c.machines.ensures.number in omega (arith, few, number)

@@ -16,12 +16,6 @@ take_over-requires-clause-few c = few_in_slot c.self.inside.cluster c.self.insid
 pub take_over-requires-clause-near : goal.take_over-requires-clause-near
 take_over-requires-clause-near c u l = (each_in_slot c.self.inside.cluster c.self.inside.slots.items c.self.inside.opened.items c.args.app.0 c.index_mut-units.result.now c.self.invariant.0 c.self.view_is c.requires.here c.index_mut-units.ensures.value u l).near
 
-pub take_over-requires-clause-racks : goal.take_over-requires-clause-racks
-take_over-requires-clause-racks c u l = (each_in_slot c.self.inside.cluster c.self.inside.slots.items c.self.inside.opened.items c.args.app.0 c.index_mut-units.result.now c.self.invariant.0 c.self.view_is c.requires.here c.index_mut-units.ensures.value u l).racks
-
-pub take_over-requires-clause-avoided : goal.take_over-requires-clause-avoided
-take_over-requires-clause-avoided c u l = (each_in_slot c.self.inside.cluster c.self.inside.slots.items c.self.inside.opened.items c.args.app.0 c.index_mut-units.result.now c.self.invariant.0 c.self.view_is c.requires.here c.index_mut-units.ensures.value u l).avoided
-
 pub take_over-requires-clause-same : goal.take_over-requires-clause-same
 take_over-requires-clause-same c =
     let v = c.self.inside in

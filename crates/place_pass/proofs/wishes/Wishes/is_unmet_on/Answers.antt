@@ -1,4 +1,5 @@
 use Rattle.std.proofs.Common.{◌≡◌, nat_lt, length, get_or, ◌∙◌, ap, arith}
+use Rattle.std.proofs.lemmas.Grind.{get_or_default_zero}
 use Rattle.fuxi_terms.specs.Cluster.{ClusterRecord}
 use Rattle.place_pass.specs.Cells.{Cell, cell_at}
 use Rattle.place_pass.proofs.wishes.Wishes.is_unmet_on.Goals as goal
@@ -12,5 +13,10 @@ held_on-requires-clause-machine c =
 pub returns : goal.returns
 returns c =
     let m = c.args.machine.0 in
-    let read : get_or c.near.result.now m 0 ≡ get_or (cell_at c.args.self.now.cells c.args.app.0 c.args.unit.0).near m 0 = ap (λ ns. get_or ns m 0) (c.near.ensures ∙ ap (λ (x : Cell). x.near) c.wish-wish.ensures.cell) in
+    let near = c.wish-wish.result.now.near.items in
+    let wide = (c.wish-wish.ensures.sound.unit c.args.app.0 c.args.unit.0 c.requires.here).near in
+    let long = ap (λ (x : Cell). length x.near) c.wish-wish.ensures.cell in
+    let lt = c.requires.machine in
+    let read : c.index.result.now ≡ get_or (cell_at c.args.self.now.cells c.args.app.0 c.args.unit.0).near m 0 =
+    c.index.ensures ∙ get_or_default_zero near m c.index.result.now (omega (arith, wide, long, lt)) ∙ ap (λ (x : Cell). get_or x.near m 0) c.wish-wish.ensures.cell in
     λ i. nat_lt (c.held_on.ensures i) (read i)

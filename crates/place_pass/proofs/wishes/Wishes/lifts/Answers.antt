@@ -1,9 +1,10 @@
-use Rattle.std.proofs.Common.{◌≡◌, ◌<◌, [], length, get_or, sym, ◌∙◌, ap, subst, arith, inl, inr}
+use Rattle.std.proofs.Common.{◌≡◌, ◌<◌, true, false, nat_lt, [], length, get_or, sym, ◌∙◌, subst, arith, inl, inr}
 use Rattle.std.proofs.lemmas.Bool.{cases_lt}
+use Rattle.std.proofs.lemmas.Bool.Decides.{nat_tests}
 use Rattle.fuxi_terms.specs.Counts.{count}
 use Rattle.fuxi_terms.specs.Keys.{key_cmp}
 use Rattle.fuxi_terms.specs.TallyKeys.{avoid_key}
-use Rattle.place_pass.specs.Cells.{Cell, cell_at}
+use Rattle.place_pass.specs.Cells.{cell_at}
 use Rattle.place_pass.proofs.AskedTheSame.{still_same}
 use Rattle.place_pass.proofs.wishes.Wishes.lifts.Goals as goal
 
@@ -22,17 +23,15 @@ loop-number-preserved-then-not-may_differ c u lt some =
           (still_same c.args.self.now.cluster c.args.demand.now.entries c.loop-number.number c.args.machine.0 (cell_at cells a c.loop-number.number) c.requires.machine (c.requires.same c.loop-number.number there alike) was)
     ]
 
-pub loop-number-preserved-then-avoided-machine-eq0 : goal.loop-number-preserved-then-avoided-machine-eq0
-loop-number-preserved-then-avoided-machine-eq0 c u lt some =
-    let read : get_or c.avoided.result.now c.args.machine.0 0 ≡ get_or (cell_at c.args.self.now.cells c.args.app.0 c.loop-number.number).avoided c.args.machine.0 0 = ap (λ ns. get_or ns c.args.machine.0 0) (c.avoided.ensures ∙ ap (λ (x : Cell). x.avoided) c.wish-wish.ensures.cell) in
-    elim (cases_lt u c.loop-number.number) [
-      | inl l ↦ c.loop-number.invariant u l some
-      | inr ge ↦
-          let same : c.loop-number.number ≡ u = omega (arith, lt, ge) in
-          let r = read ∙ ap (λ z. get_or (cell_at c.args.self.now.cells c.args.app.0 z).avoided c.args.machine.0 0) same in
-          let z = c.if-avoided-machine-eq0.true in
-          absurd (omega (arith, r, z, some))
-    ]
+pub loop-number-preserved-then-not-avoids : goal.loop-number-preserved-then-not-avoids
+loop-number-preserved-then-not-avoids c u lt some = elim (cases_lt u c.loop-number.number) [
+  | inl l ↦ c.loop-number.invariant u l some
+  | inr ge ↦
+      let same : c.loop-number.number ≡ u = omega (arith, lt, ge) in
+      let none : nat_lt 0 (get_or (cell_at c.args.self.now.cells c.args.app.0 c.loop-number.number).avoided c.args.machine.0 0) ≡ false = sym c.avoids.ensures ∙ c.if-not-avoids.true in
+      let was = subst (λ n. 0 < get_or (cell_at c.args.self.now.cells c.args.app.0 n).avoided c.args.machine.0 0) (sym same) some in
+      absurd (grind (arith, nat_tests, none, was))
+]
 
 pub loop-number-preserved : goal.loop-number-preserved
 loop-number-preserved c u lt some = elim (cases_lt u c.loop-number.number) [
@@ -48,9 +47,9 @@ loop-number-preserved c u lt some = elim (cases_lt u c.loop-number.number) [
 pub returns-then-number_at-eq0-clause-some : goal.returns-then-number_at-eq0-clause-some
 returns-then-number_at-eq0-clause-some c e =
     let there : c.loop-number.number < length (get_or c.args.self.now.cells c.args.app.0 []) = let t = c.loop-number-test.true in let e = c.units-number-end.ensures.number in omega (arith, t, e) in
-    let read : get_or c.avoided.result.now c.args.machine.0 0 ≡ get_or (cell_at c.args.self.now.cells c.args.app.0 c.loop-number.number).avoided c.args.machine.0 0 = ap (λ ns. get_or ns c.args.machine.0 0) (c.avoided.ensures ∙ ap (λ (x : Cell). x.avoided) c.wish-wish.ensures.cell) in
-    let z = c.if-avoided-machine-eq0.false in
-    record { unit = c.loop-number.number; there = there; was = omega (arith, read, z); gone = sym c.number_at.ensures ∙ c.if-number_at-eq0.true }
+    let some : nat_lt 0 (get_or (cell_at c.args.self.now.cells c.args.app.0 c.loop-number.number).avoided c.args.machine.0 0) ≡ true = sym c.avoids.ensures ∙ c.if-not-avoids.false in
+    let was : 0 < get_or (cell_at c.args.self.now.cells c.args.app.0 c.loop-number.number).avoided c.args.machine.0 0 = grind (arith, nat_tests, some) in
+    record { unit = c.loop-number.number; there = there; was = was; gone = sym c.number_at.ensures ∙ c.if-number_at-eq0.true }
 
 pub returns-clause-none : goal.returns-clause-none
 returns-clause-none c e u lt some = let t = c.loop-number-test.false in let units = c.units-number-end.ensures.number in c.loop-number.invariant u (omega (arith, lt, t, units)) some

@@ -1,7 +1,7 @@
 use Rattle.std.proofs.Common.{◌<◌, List, [], length, get_or, sym, ◌∙◌, ap, subst}
 use Rattle.std.specs.Global.{Vec}
 use Rattle.place_pass.specs.declared.wishes.Wish.{Wish}
-use Rattle.place_pass.specs.Cells.{Cell, WishesRecord, AreWishes, cells_of, cell_at}
+use Rattle.place_pass.specs.Cells.{cells_of, cell_at}
 use Rattle.place_pass.proofs.SlotsLemmas.{unit_in_slot, cell_in_slot}
 use Rattle.place_pass.proofs.wishes.Wishes.wish.Goals as goal
 
@@ -14,10 +14,3 @@ pub returns-clause-cell : goal.returns-clause-cell
 returns-clause-cell c =
     let w = c.self.inside in
     c.wish_at.ensures ∙ ap (λ (slots : List (Vec Wish)). cell_at (cells_of slots) c.args.app.0 c.args.unit.0) c.deref.ensures.value ∙ cell_in_slot w.slots.items w.cluster w.opened.items c.args.app.0 c.self.view_is c.args.unit.0
-
-pub returns-clause-racks : goal.returns-clause-racks
-returns-clause-racks c =
-    let w = c.self.inside in
-    let wishes = subst (λ (x : WishesRecord). AreWishes x.cluster x.cells x.opened) c.self.view_is c.self.invariant.0 in
-    let cell = c.wish_at.ensures ∙ ap (λ (slots : List (Vec Wish)). cell_at (cells_of slots) c.args.app.0 c.args.unit.0) c.deref.ensures.value ∙ cell_in_slot w.slots.items w.cluster w.opened.items c.args.app.0 c.self.view_is c.args.unit.0 in
-    ap (λ (x : Cell). length x.racks) cell ∙ (wishes.unit c.args.app.0 c.args.unit.0 c.requires).racks
