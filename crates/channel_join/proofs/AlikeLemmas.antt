@@ -6,8 +6,7 @@ use Rattle.std.proofs.lemmas.List.{map-append}
 use Rattle.fuxi_terms.specs.Limits.{kept_changes, turn_deltas}
 use Rattle.fuxi_terms.specs.Lists.{numbers_from}
 use Rattle.fuxi_terms.specs.declared.answers.What.TheVariants.{Stale as SaysStale, NotMine as SaysNotMine, Old as SaysOld, Gap as SaysGap, Taken as SaysTaken}
-use Rattle.delta_channel.specs.Hearing.{Receiving, verdict_of}
-use Rattle.delta_channel.specs.Calls.{met as met_by}
+use Rattle.delta_channel.specs.Hearing.{verdict_of}
 use Rattle.delta_channel.specs.declared.receiver.Verdict.TheVariants.{Take, Old, Gap, NotMine, Stale}
 use Rattle.full_sync.specs.Turns.{MarkFull, MarkDelta, MarkAck, news, turn_of, acked_after}
 use Rattle.written_net.specs.Net.{Party, Id, Link, Packet, Kind, Ack, Delta, Full, met, acknowledge, word_of, notes, turn_packets}

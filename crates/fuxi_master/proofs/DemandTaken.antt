@@ -76,6 +76,13 @@ pub demand_met : (fresh : Bool) (M : Master) (a b : ℕ) → demand_of (meet_app
 demand_met true M a b = put_at a b nothing nothing M.demands
 demand_met false M a b = refl
 
+-- another job asks and is credited as before
+pub demand_stays : (fresh : Bool) (M : Master) (a b : ℕ) → nat_eq a b ≡ false → demand_of (meet_app fresh M a) b ≡ demand_of M b
+demand_stays fresh M a b off = demand_met fresh M a b ∙ ap (λ t. cond (fresh && t) nothing (demand_of M b)) off ∙ ap (λ t. cond t nothing (demand_of M b)) (and_false fresh)
+
+pub credits_stay : (fresh : Bool) (M : Master) (a b : ℕ) → nat_eq a b ≡ false → credited_of (meet_app fresh M a) b ≡ credited_of M b
+credits_stay fresh M a b off = credited_met fresh M a b ∙ ap (λ t. cond (fresh && t) [] (credited_of M b)) off ∙ ap (λ t. cond t [] (credited_of M b)) (and_false fresh)
+
 -- an application beside the one of which something came is not new
 not_new : (fresh : Bool) (a b : ℕ) → nat_eq a b ≡ false → (fresh && nat_eq b a) ≡ false
 not_new true a b off = grind (arith, nat_tests, off)
@@ -138,11 +145,8 @@ module _ (x : CoreRecord) (near : IsNear x) (a : ℕ) (fresh taken live : Bool) 
   demand_others : (l : Ledger) (b : ℕ) → cond (nat_eq a b) l (demand_of met b) ≡ cond (nat_eq a b) l (demand_of M b)
   demand_others l b = elim (nat_eq a b) as (λ t. nat_eq a b ≡ t → cond t l (demand_of met b) ≡ cond t l (demand_of M b)) [
     | true ↦ λ _. refl
-    | false ↦ λ t. demand_met fresh M a b ∙ ap (λ t. cond (fresh && t) nothing (demand_of M b)) t ∙ ap (λ t. cond t nothing (demand_of M b)) (and_false fresh)
+    | false ↦ λ t. demand_stays fresh M a b t
   ] refl
-
-  met_other : (b : ℕ) → nat_eq a b ≡ false → credited_of met b ≡ credited_of M b
-  met_other b off = credited_met fresh M a b ∙ ap (λ t. cond (fresh && t) [] (credited_of M b)) off ∙ ap (λ t. cond t [] (credited_of M b)) (and_false fresh)
 
   abbrev moved : CoreRecord
   moved = record x { allotment = z }
@@ -207,7 +211,7 @@ module _ (x : CoreRecord) (near : IsNear x) (a : ℕ) (fresh taken live : Bool) 
       (put_at a a (raise_credited (credited_of met a) D.entries) [] met.credited ∙ ap (λ t. cond t (raise_credited (credited_of met a) D.entries) (credited_of met a)) (nat_itself a)
       ∙ raised_as c (unit_count M.jobs a) es (credited_of met a) given done.sorted (all_given (credited_of met a) given es agree)
       ∙ (λ i. numbers_set key_cmp (kept_is i) (sym (numbers_are alive) i)) ∙ sym mine)
-      (λ b off. put_at a b (raise_credited (credited_of met a) D.entries) [] met.credited ∙ ap (λ t. cond t (raise_credited (credited_of met a) D.entries) (credited_of met b)) off ∙ met_other b off)
+      (λ b off. put_at a b (raise_credited (credited_of met a) D.entries) [] met.credited ∙ ap (λ t. cond t (raise_credited (credited_of met a) D.entries) (credited_of met b)) off ∙ credits_stay fresh M a b off)
 
   -- any other demand counts as empty
   abbrev Dead : Master
@@ -217,10 +221,10 @@ module _ (x : CoreRecord) (near : IsNear x) (a : ℕ) (fresh taken live : Bool) 
   dead_stands dead =
       let parts = met_parts fresh M a in
       emptied_stands dead Dead (record { epoch = parts.epoch; jobs = parts.jobs; bans = parts.bans; serving = parts.serving; reported = parts.reported }) (met_table fresh M a) (met_line fresh M a)
-      (λ b. put_at a b nothing nothing met.demands ∙ demand_others nothing b) refl met_other
+      (λ b. put_at a b nothing nothing met.demands ∙ demand_others nothing b) refl (credits_stay fresh M a)
 
   met_stands : live ≡ false → fresh ≡ true → StandsMid news moved (record { cluster = c; state = met; sides = r.sides })
-  met_stands dead new = emptied_stands dead met (met_parts fresh M a) (met_table fresh M a) (met_line fresh M a) (λ b. demand_met fresh M a b ∙ ap (λ f. cond (f && nat_eq a b) nothing (demand_of M b)) new) refl met_other
+  met_stands dead new = emptied_stands dead met (met_parts fresh M a) (met_table fresh M a) (met_line fresh M a) (λ b. demand_met fresh M a b ∙ ap (λ f. cond (f && nat_eq a b) nothing (demand_of M b)) new) refl (credits_stay fresh M a)
 
   -- whether the demand counts
   abbrev Counts : Bool

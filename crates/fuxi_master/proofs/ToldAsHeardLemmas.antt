@@ -24,7 +24,7 @@ use Rattle.fuxi_master.specs.Cores.{CoreRecord, StandsFor}
 use Rattle.fuxi_master.specs.Commands.{changed_by, admitting}
 use Rattle.fuxi_master.specs.Heard.{demanding}
 use Rattle.fuxi_master.specs.ToldAsHeard.{IsToldAsHeard, IsHeardOnly}
-use Rattle.fuxi_master.proofs.DemandTaken.{SameParts, credited_met, demand_met, met_parts}
+use Rattle.fuxi_master.proofs.DemandTaken.{SameParts, credits_stay, demand_met, demand_stays, met_parts}
 use Rattle.fuxi_master.proofs.CreditedAlready.{raised_covers}
 use Rattle.fuxi_master.proofs.KnownJobs.{behind_other}
 use Rattle.fuxi_master.proofs.Readied.{serving_same}
@@ -139,10 +139,7 @@ module _ (a : ℕ) (fresh taken : Bool) (r : MasterRole) (only : IsHeardOnly a f
 
   -- another job asks as before
   put_other : (b : ℕ) → nat_eq a b ≡ false → (l : Ledger) → unwrap_or (find nat_cmp b (put nat_cmp a l met.demands)) nothing ≡ demand_of M b
-  put_other b off l = put_at a b l nothing met.demands ∙ ap (λ q. cond q l (demand_of met b)) off ∙ met_other b off
-    where
-      met_other : (b : ℕ) → nat_eq a b ≡ false → demand_of met b ≡ demand_of M b
-      met_other b off = demand_met fresh M a b ∙ ap (λ q. cond (fresh && q) nothing (demand_of M b)) off ∙ ap (λ q. cond q nothing (demand_of M b)) (and_false fresh)
+  put_other b off l = put_at a b l nothing met.demands ∙ ap (λ q. cond q l (demand_of met b)) off ∙ demand_stays fresh M a b off
 
   other_asks : (b : ℕ) → nat_eq a b ≡ false → demand_of after b ≡ demand_of M b
   other_asks b off = elim taken as (λ t. demand_of (cond t (take_demand met a D) met) b ≡ demand_of M b) [
@@ -150,7 +147,7 @@ module _ (a : ℕ) (fresh taken : Bool) (r : MasterRole) (only : IsHeardOnly a f
       | true ↦ put_other b off D
       | false ↦ put_other b off nothing
     ]
-    | false ↦ demand_met fresh M a b ∙ ap (λ q. cond (fresh && q) nothing (demand_of M b)) off ∙ ap (λ q. cond q nothing (demand_of M b)) (and_false fresh)
+    | false ↦ demand_stays fresh M a b off
   ]
 
   -- the job itself asks what was received, where that counts
@@ -180,14 +177,11 @@ module _ (a : ℕ) (fresh taken : Bool) (r : MasterRole) (only : IsHeardOnly a f
   other_credits : (b : ℕ) → nat_eq a b ≡ false → credited_of after b ≡ credited_of M b
   other_credits b off = elim taken as (λ t. credited_of (cond t (take_demand met a D) met) b ≡ credited_of M b) [
     | true ↦ elim (nat_eq D.head met.epoch && is_live met.jobs a) as (λ q. credited_of (cond q (record met { demands = put nat_cmp a D met.demands; table = credit a (credited_of met a) D.entries met.table; credited = put nat_cmp a (raise_credited (credited_of met a) D.entries) met.credited }) (record met { demands = put nat_cmp a nothing met.demands })) b ≡ credited_of M b) [
-      | true ↦ put_at a b (raise_credited (credited_of met a) D.entries) [] met.credited ∙ ap (λ q. cond q (raise_credited (credited_of met a) D.entries) (credited_of met b)) off ∙ met_credits b off
-      | false ↦ met_credits b off
+      | true ↦ put_at a b (raise_credited (credited_of met a) D.entries) [] met.credited ∙ ap (λ q. cond q (raise_credited (credited_of met a) D.entries) (credited_of met b)) off ∙ credits_stay fresh M a b off
+      | false ↦ credits_stay fresh M a b off
     ]
-    | false ↦ met_credits b off
+    | false ↦ credits_stay fresh M a b off
   ]
-    where
-      met_credits : (b : ℕ) → nat_eq a b ≡ false → credited_of met b ≡ credited_of M b
-      met_credits b off = credited_met fresh M a b ∙ ap (λ q. cond (fresh && q) [] (credited_of M b)) off ∙ ap (λ q. cond q [] (credited_of M b)) (and_false fresh)
 
   -- what the job itself gives back is credited: the demand that counts, or none
   itself_credits : (fresh || taken) ≡ true → (u m : ℕ) → at_key (demand_of after a) (back_key u m) ≤ count key_cmp (credited_of after a) (credited_key u m)

@@ -1,6 +1,6 @@
 -- A job that is admitted has nothing yet: the map stays, and so does each total.
 use Rattle.std.proofs.Common.{◌≡◌, ℕ, zero, suc, ◌*◌, ◌<◌, ◌≤◌, true, false, cond, nat_eq, nat_lt, List, [], ◌∷◌, length, get_or, set, map, refl, sym, ◌∙◌, ap, subst, arith, inl, inr}
-use Rattle.std.specs.Prelude.{replicate, ◌&&◌, IsTrue, is_some, Some, None, Option, slice_get}
+use Rattle.std.specs.Prelude.{◌&&◌, IsTrue, is_some, Some, None, Option, slice_get}
 use Rattle.std.specs.Option.{option_map, unwrap_or}
 use Rattle.std.specs.List.{AllByRecursion}
 use Rattle.std.proofs.lemmas.Bool.{cases_lt}

@@ -90,9 +90,7 @@ fn write_rack(racks: &mut [u32; RACKS], cluster: &Cluster, demand: &Demand, key:
 
 // Writes what a demand asks of a unit at one key. True where it wants more, or no longer avoids a machine.
 fn write_key(wish: &mut Wish, cluster: &Cluster, demand: &Demand, key: &Key) -> bool
-    requires near { length (cell_of wish.old).near ≡ length cluster.now.machines }
-    requires racks { length (cell_of wish.old).racks ≡ 64 }
-    requires avoided { length (cell_of wish.old).avoided ≡ length cluster.now.machines }
+    requires { length (cell_of wish.old).near ≡ length cluster.now.machines }
     ensures cell { IsWritten cluster.now demand.now.entries key.now (cell_of wish.old) (cell_of wish.new) }
     ensures more { result ≡ is_more_at key.now (asks_at (cell_of wish.old) key.now) (asked_by cluster.now demand.now.entries key.now) }
 {
@@ -115,9 +113,7 @@ fn write_key(wish: &mut Wish, cluster: &Cluster, demand: &Demand, key: &Key) -> 
 
 // The same of a key of a job.
 fn write_key_in(units: &mut Vec<Wish>, cluster: &Cluster, demand: &Demand, key: &Key) -> bool
-    requires near { (u : ℕ) → u < length units.old.items → length (get_or (cells_in units.old) u no_cell).near ≡ length cluster.now.machines }
-    requires racks { (u : ℕ) → u < length units.old.items → length (get_or (cells_in units.old) u no_cell).racks ≡ 64 }
-    requires avoided { (u : ℕ) → u < length units.old.items → length (get_or (cells_in units.old) u no_cell).avoided ≡ length cluster.now.machines }
+    requires { (u : ℕ) → u < length units.old.items → length (get_or (cells_in units.old) u no_cell).near ≡ length cluster.now.machines }
     ensures cells { IsWrittenIn cluster.now demand.now.entries key.now (cells_in units.old) (cells_in units.new) }
     ensures more { key.now.unit < length units.old.items → result ≡ is_more_at key.now (asks_at (get_or (cells_in units.old) key.now.unit no_cell) key.now) (asked_by cluster.now demand.now.entries key.now) }
     ensures none { length units.old.items ≤ key.now.unit → result ≡ false }

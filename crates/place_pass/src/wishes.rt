@@ -52,6 +52,9 @@ pub(crate) struct Wish {
     pub(crate) avoided: PlaceSet,
 }
 
+// Most of it is what is wanted by rack; what is wanted by machine stands beside it.
+const _: () = prove!(size_of::<Wish>() == 416);
+
 /// The admitted units with what is asked of them, and the open machines.
 #[derive(Drop)]
 pub(crate) struct Wishes {

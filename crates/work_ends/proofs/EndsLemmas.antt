@@ -1,5 +1,5 @@
 -- Ends of channels: what hearing and turns make of them.
-use Rattle.std.proofs.Common.{◌≡◌, ℕ, zero, suc, ◌+◌, ◌-◌, ◌<◌, ◌≤◌, Bool, true, false, cond, not, nat_eq, nat_lt, List, [], ◌∷◌, ◌++◌, length, map, min, Option, Some, None, Result, Ok, Err, slice_get, refl, sym, ◌∙◌, ap, subst, arith, append_assoc}
+use Rattle.std.proofs.Common.{◌≡◌, ℕ, zero, suc, ◌+◌, ◌-◌, ◌<◌, ◌≤◌, Bool, true, false, cond, not, nat_eq, nat_lt, List, [], ◌∷◌, ◌++◌, length, map, min, Some, Result, Ok, Err, slice_get, refl, sym, ◌∙◌, ap, subst, arith}
 use Rattle.std.specs.Prelude.{◌||◌, ◌&&◌}
 use Rattle.std.specs.List.{AllByRecursion}
 use Rattle.std.proofs.lemmas.Bool.Decides.{nat_tests}
@@ -9,13 +9,12 @@ use Rattle.fuxi_terms.specs.Lists.{numbers_from}
 use Rattle.fuxi_terms.specs.declared.answers.LedgerFault.{LedgerFault}
 use Rattle.fuxi_terms.specs.declared.answers.LedgerFault.TheVariants.{Below, TooGreat, OutOfMemory as WantOfMemory}
 use Rattle.fuxi_terms.specs.declared.answers.What.{What}
-use Rattle.fuxi_terms.specs.declared.answers.What.TheVariants.{Stranger, Stale, Ack as Acked, NotMine, Old, Gap, Taken}
+use Rattle.fuxi_terms.specs.declared.answers.What.TheVariants.{Stale, Ack as Acked, Taken}
 use Rattle.fuxi_terms.specs.Tallies.{TallyRecord, ChangeRecord, empty_tally}
 use Rattle.fuxi_terms.proofs.Alls.{all_append}
-use Rattle.fuxi_terms.proofs.Booleans.{both_false}
 use Rattle.ledger_law.specs.Applying.{IsRefusal}
 use Rattle.delta_channel.specs.Standing.{Sending, StandsFor, IsChangeAt}
-use Rattle.delta_channel.specs.Calls.{Meets, IsPosted, IsTaken, TakesDelta, TakesFull}
+use Rattle.delta_channel.specs.Calls.{Meets, IsPosted, IsTaken, TakesFull}
 use Rattle.std.specs.Option.{unwrap_or}
 use Rattle.delta_channel.specs.Hearing.{Receiving, HasEntry, verdict_of}
 use Rattle.delta_channel.specs.declared.receiver.Place.{Place}
@@ -25,15 +24,15 @@ use Rattle.delta_channel.specs.declared.receiver.Verdict.TheVariants.{Take, Old 
 use Rattle.full_sync.specs.Turns.{Endpoint, Mark, MarkFull, MarkDelta, MarkAck, mark_of, news, turn_of, Brings, acked_after}
 use Rattle.full_sync.specs.declared.duplex.Note.{Note}
 use Rattle.full_sync.specs.declared.duplex.Note.TheVariants.{Delta, Full, Ack}
-use Rattle.channel_join.specs.Alike.{place_at, place_of, stamp_of, told_as, mark_as, mark_at}
+use Rattle.channel_join.specs.Alike.{place_at, place_of, stamp_of, told_as}
 use Rattle.schedule_unit.specs.declared.party.Party.{Party as PartyHere}
-use Rattle.written_net.specs.Net.{Party, Id, Link, Packet, Kind, Ack as IsAck, Delta as IsDelta, Full as IsFull, met, acknowledge, place_moved, word_of, link_after, notes, turn_packets, unmoved, at_index, Heard as HeardThere}
+use Rattle.written_net.specs.Net.{Party, Id, Link, Packet, Kind, Ack as IsAck, Delta as IsDelta, Full as IsFull, met, acknowledge, word_of, link_after, turn_packets, unmoved, at_index, Heard as HeardThere}
 use Rattle.written_work.specs.WorkEvents.{hear_running}
 use Rattle.written_work.specs.AgentWithApps.{present}
 use Rattle.work_ends.proofs.NamesLemmas.{found_same, found_other}
 use Rattle.work_ends.specs.declared.ends.Parcel.{Parcel}
 use Rattle.work_ends.specs.declared.hearing.Heard.{Heard}
-use Rattle.work_ends.specs.Ends.{IsEnd, party_of, packet_of, note_packet, parcel_of, names_packet, change_packet, NoteBrought, NamesBrought, ChangeBrought, Brought, TakesAs, HearsAs, Sets, patched_names}
+use Rattle.work_ends.specs.Ends.{IsEnd, party_of, packet_of, note_packet, parcel_of, names_packet, change_packet, NamesBrought, ChangeBrought, Brought, TakesAs, HearsAs, Sets, patched_names}
 
 -- The packets of a turn, from the marks of its notes
 abbrev packet_by : Party → Party → Mark → Packet

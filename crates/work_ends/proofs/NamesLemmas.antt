@@ -1,24 +1,22 @@
 -- The change that sets names, as a change of a tally.
-use Rattle.std.proofs.Common.{◌≡◌, ℕ, ◌<◌, ◌≤◌, ◌^◌, Bool, true, false, cond, not, nat_eq, List, [], ◌∷◌, length, Ok, refl, sym, ◌∙◌, ap, subst, arith}
-use Rattle.std.specs.Prelude.{ℤ}
-use Rattle.std.specs.List.{AllByRecursion}
+use Rattle.std.proofs.Common.{◌≡◌, ℕ, ◌<◌, ◌≤◌, ◌^◌, Bool, true, false, cond, not, nat_eq, List, [], ◌∷◌, length, Ok, refl, sym, ◌∙◌, ap, arith}
 use Rattle.std.proofs.lemmas.Bool.Decides.{nat_tests}
 use Rattle.std.specs.FinMap.Entries.{where_key}
 use Rattle.fuxi_terms.specs.declared.Key.{Key}
 use Rattle.fuxi_terms.specs.declared.answers.LedgerFault.TheVariants.{Below, TooGreat}
 use Rattle.fuxi_terms.specs.Counts.{AreCounts, AreChanges, change_all, then_do, count, is_same, difference}
 use Rattle.fuxi_terms.specs.Keys.{key_cmp}
-use Rattle.fuxi_terms.specs.Tallies.{TallyRecord, ChangeRecord, staying, tally_difference}
+use Rattle.fuxi_terms.specs.Tallies.{TallyRecord, ChangeRecord, staying}
 use Rattle.fuxi_terms.proofs.Booleans.{nat_itself}
 use Rattle.fuxi_terms.proofs.CountsLemmas.{count_le}
 use Rattle.fuxi_terms.proofs.KeyOrders.{key_total, same_key}
 use Rattle.fuxi_terms.proofs.SameEntries.{same_entries, same_itself}
 use Rattle.ledger_law.specs.Differing.{tally_by_difference}
-use Rattle.ledger_law.specs.Shapes.{IsTally, IsChange}
+use Rattle.ledger_law.specs.Shapes.{IsTally}
 use Rattle.work_plan.specs.PlanKeys.{greatest_named, no_what}
 use Rattle.fuxi_terms.specs.NumbersSet.{numbers_set, moves, AreNumbers}
 use Rattle.work_ends.specs.Ends.{names_set, patched_names}
-use Rattle.fuxi_terms.proofs.NumbersSetLemmas.{moves_make, set_counts, no_difference}
+use Rattle.fuxi_terms.proofs.NumbersSetLemmas.{moves_make, no_difference}
 
 pub at_most_one : (k : Key) → greatest_named k ≤ 1
 at_most_one k = grind (arith, nat_tests)

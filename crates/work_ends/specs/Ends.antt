@@ -1,22 +1,20 @@
 -- When an end of a channel stands for a link of the written net and the histories of both sides, and what its calls make of it.
-use Rattle.std.specs.Prelude.{◌≡◌, ℕ, ◌+◌, ◌-◌, ◌<◌, ◌≤◌, Bool, true, false, nat_lt, List, [], ◌∷◌, ◌++◌, length, map, Option, Some, Result, slice_get}
+use Rattle.std.specs.Prelude.{◌≡◌, ℕ, ◌+◌, ◌-◌, ◌≤◌, false, List, ◌∷◌, ◌++◌, length, map, Some, Result, slice_get}
 use Rattle.fuxi_terms.specs.declared.Key.{Key}
 use Rattle.fuxi_terms.specs.declared.answers.LedgerFault.{LedgerFault}
 use Rattle.fuxi_terms.specs.declared.answers.LedgerFault.TheVariants.{Below, TooGreat}
 use Rattle.fuxi_terms.specs.declared.answers.What.{What}
-use Rattle.fuxi_terms.specs.declared.answers.What.TheVariants.{Stale}
 use Rattle.fuxi_terms.specs.Keys.{key_cmp}
 use Rattle.fuxi_terms.specs.Tallies.{TallyRecord, ChangeRecord, empty_tally, patched_tally}
 use Rattle.delta_channel.specs.Standing.{StandsFor, IsChangeAt}
 use Rattle.delta_channel.specs.Hearing.{HasEntry}
-use Rattle.delta_channel.specs.declared.receiver.Place.{Place}
 use Rattle.full_sync.specs.Turns.{Endpoint}
 use Rattle.full_sync.specs.declared.duplex.Note.{Note}
 use Rattle.full_sync.specs.declared.duplex.Note.TheVariants.{Delta, Full, Ack}
 use Rattle.channel_join.specs.Alike.{place_at}
 use Rattle.schedule_unit.specs.declared.party.Party.{Party as PartyHere}
 use Rattle.schedule_text.specs.Printing.{as_party}
-use Rattle.written_net.specs.Net.{Party, Id, Link, Packet, Kind, Ack as IsAck, Delta as IsDelta, Full as IsFull, Heard as HeardThere, same_id, word_of, link_after, met, unmoved, hear_peer}
+use Rattle.written_net.specs.Net.{Party, Id, Link, Packet, Kind, Ack as IsAck, Delta as IsDelta, Full as IsFull, same_id, word_of, link_after}
 use Rattle.written_work.specs.WorkSettling.{published}
 use Rattle.written_work.specs.WorkEvents.{hear_running}
 use Rattle.work_plan.specs.PlanKeys.{greatest_named, no_what}

@@ -1,7 +1,7 @@
 -- The entries of a unit in a plan stand side by side, and their numbers rise.
-use Rattle.std.proofs.Common.{◌≡◌, ◌≢◌, ℕ, zero, suc, ◌+◌, ◌-◌, ◌<◌, ◌≤◌, Bool, true, false, cond, nat_eq, nat_lt, List, [], ◌∷◌, ◌++◌, length, map, filter, take, drop, get_or, refl, sym, ◌∙◌, ap, subst, arith, append-nil}
-use Rattle.std.specs.Prelude.{◌||◌, T, ltb, leb, slice_index_or}
-use Rattle.std.specs.List.{AllByRecursion, AllWithin}
+use Rattle.std.proofs.Common.{◌≡◌, ℕ, zero, suc, ◌+◌, ◌<◌, ◌≤◌, Bool, true, false, cond, nat_eq, nat_lt, List, [], ◌∷◌, ◌++◌, length, map, filter, take, drop, get_or, refl, sym, ◌∙◌, ap, arith, append-nil}
+use Rattle.std.specs.Prelude.{T}
+use Rattle.std.specs.List.{AllByRecursion}
 use Rattle.std.specs.List.Sorted.{IsNonDecreasingBy}
 use Rattle.std.specs.Ordering.{nat_cmp, ordering_then, is_lt}
 use Rattle.std.specs.declared.cmp.Ordering.{Ordering}
@@ -17,7 +17,7 @@ use Rattle.fuxi_terms.specs.Keys.{key_cmp}
 use Rattle.fuxi_terms.specs.Numbers.{has_number}
 use Rattle.fuxi_terms.specs.Limits.{most_units}
 use Rattle.work_plan.specs.PlanKeys.{most_workers, greatest_named, of_unit, named}
-use Rattle.work_plan.specs.Crews.{Distinct, AreNumbers, numbers_of}
+use Rattle.work_plan.specs.Crews.{Distinct, AreNumbers}
 
 -- the key of an entry names a worker
 pub record IsNamed (k : Key) : Type 0 where

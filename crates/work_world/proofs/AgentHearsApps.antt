@@ -1,12 +1,10 @@
 -- A packet of an application is heard by the agent.
-use Rattle.std.proofs.Common.{◌≡◌, ◌≢◌, ℕ, ◌+◌, ◌<◌, ◌≤◌, Bool, true, false, cond, not, nat_eq, nat_lt, List, [], length, Option, Some, None, get_or, refl, sym, ◌∙◌, ap, subst, arith}
+use Rattle.std.proofs.Common.{◌≡◌, ℕ, ◌+◌, ◌≤◌, Bool, true, false, cond, not, nat_eq, nat_lt, List, [], length, None, get_or, refl, sym, ◌∙◌, ap, subst, arith}
 use Rattle.std.specs.Prelude.{◌&&◌, ◌||◌}
 use Rattle.std.proofs.lemmas.Bool.Decides.{nat_tests}
 use Rattle.fuxi_terms.specs.Limits.{most_units}
 use Rattle.fuxi_terms.specs.Tallies.{TallyRecord, ChangeRecord, empty_tally}
-use Rattle.fuxi_terms.proofs.Booleans.{number_is}
-use Rattle.fuxi_terms.specs.declared.answers.What.{What}
-use Rattle.fuxi_terms.specs.declared.answers.What.TheVariants.{Taken, Old, Gap, NotMine, Ack as Acked, Stale}
+use Rattle.fuxi_terms.specs.declared.answers.What.TheVariants.{Taken, Old, Gap, NotMine, Stale}
 use Rattle.delta_channel.specs.Standing.{Sending}
 use Rattle.full_sync.specs.Turns.{Endpoint}
 use Rattle.written_net.specs.Net.{Link, Packet, Kind, Ack as IsAck, Delta as IsDelta, Full as IsFull, Heard as HeardThere, at_index, link_after, met, unmoved, word_of}
@@ -18,8 +16,8 @@ use Rattle.work_ends.specs.Ends.{Brought, HearsAs, IsEnd, histories, packet_of}
 use Rattle.written_net.specs.Net.{Party as WrittenParty, Id}
 use Rattle.written_work.specs.WorkEvents.{hear_running}
 use Rattle.written_work.specs.AgentWithApps.{agent_id, app_id}
-use Rattle.work_world.specs.WorkMoves.{HeardPeer, HearsPeer, KeepsPlan}
-use Rattle.work_world.specs.Settles.{Crews, IsPublished, SettlesPeer, is_outside}
+use Rattle.work_world.specs.WorkMoves.{HearsPeer, KeepsPlan}
+use Rattle.work_world.specs.Settles.{Crews, SettlesPeer, is_outside}
 use Rattle.work_world.specs.WorkWorlds.{Crew, HasPeer, IsPeer, agent_of, force_at, settled_work}
 use Rattle.work_world.specs.declared.parts.Peer.{Peer}
 use Rattle.work_world.proofs.HistoriesGrow.{packet_from, received_is}

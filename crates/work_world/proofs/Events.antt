@@ -1,7 +1,6 @@
 -- What each event leaves of the agent, the applications and the packets, before the agent settles.
-use Rattle.std.proofs.Common.{◌≡◌, ◌≢◌, ℕ, ◌+◌, ◌-◌, ◌<◌, ◌≤◌, Bool, true, false, cond, nat_eq, nat_lt, List, [], ◌∷◌, ◌++◌, length, map, Option, Some, None, get_or, refl, sym, ◌∙◌, ap, subst, arith}
+use Rattle.std.proofs.Common.{◌≡◌, ◌≢◌, ℕ, ◌<◌, Bool, true, false, nat_eq, List, [], ◌∷◌, length, Option, Some, None, get_or, refl, sym, ◌∙◌, ap, subst, arith}
 use Rattle.std.specs.Prelude.{◌&&◌}
-use Rattle.std.specs.List.{AllByRecursion}
 use Rattle.std.proofs.lemmas.Bool.Decides.{nat_tests}
 use Rattle.fuxi_terms.specs.Tallies.{TallyRecord, ChangeRecord, empty_tally}
 use Rattle.fuxi_terms.proofs.Alls.{all_more}
@@ -11,11 +10,11 @@ use Rattle.full_sync.specs.Turns.{Endpoint, new_endpoint}
 use Rattle.written_net.specs.Net.{Party, Id, Link, same_id, same_party, set_at, unknown}
 use Rattle.work_ends.specs.Ends.{IsEnd, Brought, Sets, histories, patched_names}
 use Rattle.work_ends.specs.declared.ends.Parcel.{Parcel}
-use Rattle.written_work.specs.WorkEvents.{agent_starts, app_starts, plan_set, plan_with, row_set, set_to}
+use Rattle.written_work.specs.WorkEvents.{agent_starts, app_starts, plan_set, plan_with}
 use Rattle.written_work.specs.WorkSettling.{histories_after, in_force, published, settled_all, work_after}
-use Rattle.written_work.specs.AgentWithApps.{World, agent_id, app_id, agent_party, app_party, agent_link, app_link, present}
+use Rattle.written_work.specs.AgentWithApps.{World, agent_id, app_id, app_party, agent_link, app_link, present}
 use Rattle.work_world.specs.WorkMoves.{StartsApp}
-use Rattle.work_world.specs.WorkWorlds.{IsAgent, AgentAt, IsApp, IsAppOf, AppAt, AppOf, AppsAt, Carries, IsFresh, Crew, PeerAt, agent_of}
+use Rattle.work_world.specs.WorkWorlds.{IsAgent, AgentAt, IsAppOf, AppAt, AppOf, AppsAt, Carries, IsFresh, Crew, PeerAt, agent_of}
 use Rattle.work_world.specs.declared.parts.Agent.{Agent}
 use Rattle.work_world.specs.declared.parts.Peer.{Peer}
 use Rattle.work_world.proofs.HistoriesGrow.{Grown, brought_grows, end_grows, present_is, published_grown, same_grown}

@@ -12,7 +12,7 @@ use Rattle.delta_channel.specs.Standing.{StandsFor}
 use Rattle.full_sync.specs.Turns.{Endpoint}
 use Rattle.full_sync.specs.declared.duplex.Note.{Note}
 use Rattle.full_sync.specs.declared.duplex.Note.TheVariants.{Delta, Full, Ack}
-use Rattle.written_net.specs.Net.{Party, Id, Link, Packet, at_index}
+use Rattle.written_net.specs.Net.{Party, Id, Link, at_index}
 use Rattle.written_work.specs.WorkSettling.{published}
 use Rattle.written_work.specs.AgentWithApps.{present}
 use Rattle.work_ends.specs.declared.ends.Parcel.{Parcel}

@@ -1,7 +1,7 @@
 -- The names that change where units are settled make the ledger that names those that run.
-use Rattle.std.proofs.Common.{◌≡◌, ℕ, zero, suc, ◌+◌, ◌<◌, ◌≤◌, Bool, true, false, cond, not, nat_eq, nat_lt, List, [], ◌∷◌, ◌++◌, length, map, Option, Some, None, get_or, refl, sym, ◌∙◌, ap, subst, arith, append-nil, append_assoc, add-one}
+use Rattle.std.proofs.Common.{◌≡◌, ℕ, zero, suc, ◌+◌, ◌<◌, ◌≤◌, Bool, true, false, cond, nat_eq, nat_lt, List, [], ◌∷◌, ◌++◌, map, Option, get_or, refl, sym, ◌∙◌, ap, subst, arith, append-nil, append_assoc, add-one}
 use Rattle.std.specs.Prelude.{◌&&◌, ◌||◌, T}
-use Rattle.std.specs.Cmp.{IsTotalOrder, nat_cmp_total, tied_itself}
+use Rattle.std.specs.Cmp.{nat_cmp_total, tied_itself}
 use Rattle.std.specs.List.{AllByRecursion, flat_map, list_any}
 use Rattle.std.specs.Ordering.{nat_cmp, ordering_then, eq_by_cmp, is_eq, is_lt}
 use Rattle.std.specs.declared.cmp.Ordering.{Ordering}
@@ -21,7 +21,7 @@ use Rattle.fuxi_terms.specs.Lists.{below}
 use Rattle.fuxi_terms.specs.Numbers.{has_number}
 use Rattle.fuxi_terms.proofs.Alls.{all_append, all_more}
 use Rattle.fuxi_terms.proofs.Booleans.{number_is, nat_itself, both_true, same_tests, or_false}
-use Rattle.fuxi_terms.proofs.CountsLemmas.{tied, lesser, count-set_count, counts-set_count, count_le, same_counts}
+use Rattle.fuxi_terms.proofs.CountsLemmas.{tied, count-set_count, counts-set_count, count_le, same_counts}
 use Rattle.fuxi_terms.proofs.KeyOrders.{key_total, same_key}
 use Rattle.work_plan.specs.Crews.{Marks}
 use Rattle.work_plan.specs.PlanKeys.{greatest_named, most_workers, worker_key}

@@ -1,21 +1,20 @@
 -- A packet is delivered.
-use Rattle.std.proofs.Common.{◌≡◌, ◌≢◌, ℕ, ◌+◌, ◌-◌, ◌<◌, ◌≤◌, Bool, true, false, nat_eq, nat_lt, List, [], ◌∷◌, ◌++◌, length, map, Option, Some, None, get_or, slice_get, refl, sym, ◌∙◌, ap, subst, arith}
+use Rattle.std.proofs.Common.{◌≡◌, ◌≢◌, ℕ, Bool, true, false, nat_eq, List, [], ◌∷◌, length, Option, Some, None, get_or, refl, sym, ◌∙◌, ap, subst, arith}
 use Rattle.std.specs.Prelude.{◌&&◌}
-use Rattle.std.specs.List.{AllByRecursion}
 use Rattle.std.proofs.lemmas.Bool.Decides.{nat_tests}
 use Rattle.fuxi_terms.specs.Tallies.{TallyRecord, ChangeRecord}
-use Rattle.fuxi_terms.proofs.Booleans.{eq_turned, nat_itself, number_is}
+use Rattle.fuxi_terms.proofs.Booleans.{eq_turned, number_is}
 use Rattle.full_sync.specs.Turns.{Endpoint}
 use Rattle.written_net.specs.Net.{Id, Link, Packet, Heard as HeardThere, Party as WrittenParty, set_at, with_links}
 use Rattle.work_ends.specs.declared.ends.Parcel.{Parcel}
 use Rattle.work_ends.specs.declared.hearing.Heard.{Heard}
-use Rattle.work_ends.specs.Ends.{Brought, HearsAs, IsEnd, packet_of}
+use Rattle.work_ends.specs.Ends.{HearsAs, IsEnd}
 use Rattle.written_work.specs.WorkEvents.{Step, boot_of, deliver, done, hear_running, heard_at, hears, with_net}
-use Rattle.written_work.specs.WorkLines.{Came, Line, Lost}
-use Rattle.written_work.specs.WorkSettling.{settled, settled_all}
+use Rattle.written_work.specs.WorkLines.{Came, Lost}
+use Rattle.written_work.specs.WorkSettling.{settled}
 use Rattle.written_work.specs.AgentWithApps.{World, agent_id, agent_party, app_id, app_link, app_party}
-use Rattle.work_world.specs.WorkMoves.{HeardAgent, HearsAgent, heard_line}
-use Rattle.work_world.specs.WorkWorlds.{AgentAt, AppAt, AppOf, AppsAt, Carries, IsAgent, IsApp, IsAppOf}
+use Rattle.work_world.specs.WorkMoves.{HeardAgent, heard_line}
+use Rattle.work_world.specs.WorkWorlds.{AgentAt, AppAt, AppOf, AppsAt, Carries, IsAgent, IsAppOf}
 use Rattle.work_world.specs.declared.parts.Agent.{Agent}
 use Rattle.work_world.proofs.Agents.{apps_settle, at_agent_settles, carries_settle, events_settle, settled_where}
 use Rattle.work_world.proofs.Events.{party_itself}

@@ -1,7 +1,7 @@
 -- Turns: packets stand behind those that were sent.
-use Rattle.std.proofs.Common.{◌≡◌, ℕ, zero, suc, ◌+◌, ◌<◌, ◌≤◌, Bool, true, false, cond, nat_eq, nat_lt, List, [], ◌∷◌, ◌++◌, length, map, drop, Option, Some, None, get_or, refl, sym, ◌∙◌, ap, subst, arith, append-nil, append_assoc, length-append, drop-cons, add-one}
+use Rattle.std.proofs.Common.{◌≡◌, ℕ, zero, suc, ◌+◌, ◌<◌, ◌≤◌, true, false, cond, nat_eq, nat_lt, List, [], ◌∷◌, ◌++◌, length, map, drop, Option, Some, None, get_or, refl, sym, ◌∙◌, ap, subst, arith, append-nil, append_assoc, length-append, add-one}
 use Rattle.std.specs.List.{AllByRecursion, flat_map}
-use Rattle.std.proofs.lemmas.List.{map-append, length-map}
+use Rattle.std.proofs.lemmas.List.{length-map}
 use Rattle.std.proofs.lemmas.Bool.Decides.{nat_tests}
 use Rattle.fuxi_terms.specs.Limits.{most_jobs}
 use Rattle.fuxi_terms.specs.Lists.{below}
@@ -12,18 +12,18 @@ use Rattle.full_sync.specs.declared.duplex.Note.{Note}
 use Rattle.schedule_unit.specs.declared.party.Party.{Party as PartyHere}
 use Rattle.written_net.specs.Net.{Id, Link, Packet, Party, turn, turn_packets}
 use Rattle.work_ends.specs.declared.ends.Parcel.{Parcel}
-use Rattle.work_ends.specs.Ends.{AppendsParcels, Brought, IsEnd, histories, packet_of, parcel_of, party_of}
-use Rattle.written_work.specs.WorkEvents.{Step, act, agent_packets, app_packets, done, numbered, refused, sends, with_net}
+use Rattle.work_ends.specs.Ends.{AppendsParcels, Brought, histories, packet_of, parcel_of}
+use Rattle.written_work.specs.WorkEvents.{Step, act, agent_packets, app_packets, numbered, refused, sends, with_net}
 use Rattle.schedule_unit.specs.declared.party.AppNo.{AppNo}
 use Rattle.written_work.specs.declared.event.WorkEvent.TheVariants.{TurnAgent, TurnApp}
 use Rattle.work_world.specs.declared.stop.WorkStop.TheVariants.{TooManyPackets, OutOfMemory}
-use Rattle.written_work.specs.WorkLines.{Line, NotRunning, Refused, Sent, line_text, lines_text}
+use Rattle.written_work.specs.WorkLines.{NotRunning, Sent, line_text, lines_text}
 use Rattle.written_work.specs.WorkRuns.{most_work_packets, past}
 use Rattle.written_work.specs.WorkSettling.{settled}
 use Rattle.written_work.specs.AgentWithApps.{World, agent_id, agent_link, agent_party, all_apps, app_id, app_link, app_party}
 use Rattle.work_world.specs.WorkMoves.{Sends}
 use Rattle.work_world.specs.WorkSteps.{Exceeds, Finishes, StepsTo, StopsAs}
-use Rattle.work_world.specs.WorkWorlds.{AgentAt, AppsAt, Carries, IsAgent, IsApp, IsAppOf, IsBetween, IsPeer, PeerAt, Stands, agent_of}
+use Rattle.work_world.specs.WorkWorlds.{AgentAt, AppsAt, IsAgent, IsBetween, IsPeer, PeerAt, Stands}
 use Rattle.work_world.specs.declared.parts.Agent.{Agent}
 use Rattle.work_world.specs.declared.parts.Peer.{Peer}
 use Rattle.work_world.specs.declared.stop.WorkStop.{WorkStop}

@@ -1,14 +1,13 @@
 -- What the agent has of an application, where an event does not touch it.
-use Rattle.std.proofs.Common.{◌≡◌, ℕ, ◌+◌, ◌<◌, ◌≤◌, Bool, true, false, nat_eq, List, [], ◌∷◌, ◌++◌, length, map, Option, Some, None, refl, sym, ◌∙◌, ap, subst}
+use Rattle.std.proofs.Common.{◌≡◌, ℕ, true, false, nat_eq, List, [], ◌∷◌, map, Option, Some, None, refl, sym, ◌∙◌, ap, subst}
 use Rattle.std.specs.List.{flat_map}
-use Rattle.fuxi_terms.specs.declared.Key.{Key}
-use Rattle.fuxi_terms.specs.Tallies.{TallyRecord, ChangeRecord, empty_tally}
+use Rattle.fuxi_terms.specs.Tallies.{TallyRecord, ChangeRecord}
 use Rattle.full_sync.specs.Turns.{Endpoint}
-use Rattle.written_net.specs.Net.{Link, unknown, at_index}
+use Rattle.written_net.specs.Net.{Link}
 use Rattle.work_plan.specs.PlanKeys.{named, worker_key}
 use Rattle.work_plan.specs.RunAfter.{run_after}
 use Rattle.work_ends.specs.Ends.{IsEnd, histories}
-use Rattle.written_work.specs.WorkSettling.{published, running_of, keys_of, with_names}
+use Rattle.written_work.specs.WorkSettling.{running_of, with_names}
 use Rattle.written_work.specs.AgentWithApps.{agent_id, app_id, all_units, present}
 use Rattle.work_world.specs.Settles.{IsPublished}
 use Rattle.work_world.specs.WorkWorlds.{Crew, HasPeer, IsPeer, IsNoPeer, PeerAt, agent_of, force_at, settled_work}

@@ -1,14 +1,12 @@
 -- Packets are delivered one after another.
-use Rattle.std.proofs.Common.{◌≡◌, ℕ, zero, suc, ◌+◌, ◌-◌, ◌<◌, ◌≤◌, Bool, true, false, nat_eq, nat_lt, List, [], ◌∷◌, ◌++◌, length, map, Option, Some, None, slice_get, refl, sym, ◌∙◌, ap, subst, arith, append-nil, append_assoc}
-use Rattle.std.specs.List.{AllByRecursion}
+use Rattle.std.proofs.Common.{◌≡◌, ℕ, zero, suc, ◌+◌, ◌-◌, ◌<◌, ◌≤◌, true, false, nat_lt, List, [], ◌∷◌, ◌++◌, length, map, Option, Some, slice_get, sym, ◌∙◌, ap, subst, arith, append-nil, append_assoc}
 use Rattle.std.proofs.lemmas.List.{length-map}
 use Rattle.std.proofs.lemmas.Bool.Decides.{nat_tests}
 use Rattle.fuxi_terms.proofs.Lists.{all_at}
 use Rattle.work_ends.specs.declared.ends.Parcel.{Parcel}
 use Rattle.work_ends.specs.Ends.{Brought, packet_of}
-use Rattle.written_net.specs.Net.{Packet}
-use Rattle.written_work.specs.WorkEvents.{Step, deliver, deliveries}
-use Rattle.written_work.specs.WorkLines.{Line, lines_text}
+use Rattle.written_work.specs.WorkEvents.{deliver, deliveries}
+use Rattle.written_work.specs.WorkLines.{lines_text}
 use Rattle.written_work.specs.AgentWithApps.{World}
 use Rattle.work_ends.specs.declared.hearing.Heard.{Heard}
 use Rattle.work_world.specs.WorkMoves.{Delivers, HearsOne, heard_line}

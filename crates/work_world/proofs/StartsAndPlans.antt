@@ -1,5 +1,5 @@
 -- What starts, counts and plans make of all that runs.
-use Rattle.std.proofs.Common.{◌≡◌, ◌≢◌, ℕ, zero, suc, ◌+◌, ◌-◌, ◌<◌, ◌≤◌, Bool, true, false, cond, nat_eq, nat_lt, List, [], ◌∷◌, ◌++◌, length, Option, Some, None, Result, Ok, Err, OnOk, get_or, slice_get, refl, sym, ◌∙◌, ap, subst, arith, append-nil}
+use Rattle.std.proofs.Common.{◌≡◌, ◌≢◌, ℕ, zero, suc, ◌+◌, ◌-◌, ◌<◌, ◌≤◌, Bool, true, false, cond, nat_eq, nat_lt, List, [], ◌++◌, length, Option, Some, None, Result, Ok, Err, OnOk, get_or, slice_get, refl, sym, ◌∙◌, ap, subst, arith, append-nil}
 use Rattle.std.proofs.lemmas.Bool.Decides.{nat_tests}
 use Rattle.fuxi_terms.specs.Tallies.{TallyRecord, ChangeRecord}
 use Rattle.full_sync.specs.Turns.{Endpoint}
@@ -8,7 +8,6 @@ use Rattle.schedule_unit.specs.declared.party.UnitNo.{UnitNo}
 use Rattle.written_net.specs.Net.{Packet}
 use Rattle.work_world.proofs.PacketDelivered.{events_delivered}
 use Rattle.work_ends.specs.Ends.{Sets}
-use Rattle.work_ends.specs.declared.ends.Parcel.{Parcel}
 use Rattle.written_work.specs.WorkEvents.{Step, act, agent_packets, agent_starts, app_packets, app_starts, counted, deliver, deliveries, done, plan_set, plan_with, refused, row_set, sends, with_net, work_step}
 use Rattle.written_work.specs.WorkLines.{NoPacket, NotRising, NotRunning}
 use Rattle.written_work.specs.WorkSettling.{settled, settled_all}

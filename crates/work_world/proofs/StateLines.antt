@@ -1,5 +1,5 @@
 -- The lines of the state.
-use Rattle.std.proofs.Common.{◌≡◌, ℕ, ◌+◌, ◌<◌, Bool, true, false, nat_eq, List, [], ◌∷◌, ◌++◌, length, map, Option, Some, None, IsSome, get_or, refl, sym, ◌∙◌, ap, subst, arith, append-nil, append_assoc}
+use Rattle.std.proofs.Common.{◌≡◌, ℕ, ◌+◌, Bool, true, false, nat_eq, List, [], ◌∷◌, ◌++◌, map, Option, Some, None, IsSome, get_or, refl, sym, ◌∙◌, ap, subst, arith, append-nil, append_assoc}
 use Rattle.std.specs.List.{flat_map}
 use Rattle.std.proofs.lemmas.Bool.Decides.{nat_tests}
 use Rattle.fuxi_terms.specs.declared.Key.{Key}
@@ -7,12 +7,11 @@ use Rattle.fuxi_terms.specs.Limits.{most_jobs}
 use Rattle.fuxi_terms.specs.Lists.{below}
 use Rattle.fuxi_terms.specs.Tallies.{TallyRecord, ChangeRecord}
 use Rattle.full_sync.specs.Turns.{Endpoint}
-use Rattle.written_net.specs.Net.{Link, unknown}
 use Rattle.work_plan.specs.Crews.{runs_at}
 use Rattle.written_work.specs.WorkEvents.{agent_app_lines, agent_lines, app_lines}
 use Rattle.written_work.specs.WorkLines.{AgentIs, AppIs, Line, PlanAt, Seen, Works, line_text, lines_text}
-use Rattle.written_work.specs.AgentWithApps.{World, agent_id, agent_link, agent_party, all_apps, all_units, app_id, app_link, app_party, seen_running}
-use Rattle.work_world.specs.WorkWorlds.{AppOf, AppsAt, Crew, IsAgent, IsAppOf, IsNoPeer, IsPeer, PeerAt}
+use Rattle.written_work.specs.AgentWithApps.{World, agent_id, agent_link, all_apps, all_units, app_link, app_party, seen_running}
+use Rattle.work_world.specs.WorkWorlds.{AppOf, AppsAt, IsAgent, IsAppOf, IsNoPeer, IsPeer, PeerAt}
 use Rattle.work_world.specs.declared.parts.Agent.{Agent}
 use Rattle.work_world.specs.declared.parts.Peer.{Peer}
 use Rattle.work_world.proofs.HistoriesGrow.{received_is}

@@ -1,5 +1,5 @@
 -- The agent is told of one application: all others stay as they are.
-use Rattle.std.proofs.Common.{◌≡◌, ◌≢◌, ℕ, zero, suc, ◌+◌, ◌<◌, ◌≤◌, Bool, true, false, nat_eq, nat_lt, List, [], ◌∷◌, length, Option, Some, None, IsSome, get_or, refl, sym, ◌∙◌, ap, subst, arith}
+use Rattle.std.proofs.Common.{◌≡◌, ◌≢◌, ℕ, zero, suc, ◌<◌, Bool, true, false, nat_eq, List, [], ◌∷◌, length, Option, Some, None, get_or, refl, sym, ◌∙◌, ap, subst, arith}
 use Rattle.std.specs.Prelude.{◌&&◌}
 use Rattle.std.specs.List.{AllByRecursion}
 use Rattle.std.proofs.lemmas.Bool.Decides.{nat_tests}
@@ -7,8 +7,8 @@ use Rattle.fuxi_terms.specs.Tallies.{TallyRecord, ChangeRecord, empty_tally}
 use Rattle.fuxi_terms.proofs.Booleans.{eq_turned, nat_itself, number_is}
 use Rattle.delta_channel.specs.Standing.{StandsFor}
 use Rattle.full_sync.specs.Turns.{Endpoint}
-use Rattle.written_net.specs.Net.{Heard as HeardThere, Id, Link, Packet, same_id, same_party, set_at, unknown, with_links}
-use Rattle.work_plan.specs.Crews.{crew_of, nobody, workers_of}
+use Rattle.written_net.specs.Net.{Heard as HeardThere, Id, Link, Packet, set_at, with_links}
+use Rattle.work_plan.specs.Crews.{nobody, workers_of}
 use Rattle.work_plan.specs.PlanKeys.{most_workers, named}
 use Rattle.work_plan.specs.RunAfter.{run_after}
 use Rattle.work_plan.specs.declared.squad.Member.{Member}
@@ -19,8 +19,8 @@ use Rattle.written_work.specs.WorkEvents.{hear_running, row_set, set_to, with_ne
 use Rattle.written_work.specs.WorkSettling.{histories_after, running_of, settled_all}
 use Rattle.written_work.specs.AgentWithApps.{World, agent_id, app_id, agent_link, agent_party}
 use Rattle.work_world.specs.WorkMoves.{CountsPeer, HeardAgent, HeardPeer, HearsPeer, IsNew}
-use Rattle.work_world.specs.Settles.{Crews, IsPublished}
-use Rattle.work_world.specs.WorkWorlds.{Crew, HasPeer, IsAgent, IsNoPeer, IsPeer, PeerAt, agent_of, force_at, settled_work}
+use Rattle.work_world.specs.Settles.{IsPublished}
+use Rattle.work_world.specs.WorkWorlds.{Crew, IsAgent, IsNoPeer, IsPeer, PeerAt, agent_of, force_at, settled_work}
 use Rattle.work_world.specs.declared.parts.Agent.{Agent}
 use Rattle.work_world.specs.declared.parts.Peer.{Peer}
 use Rattle.work_world.proofs.Agents.{peer_after, published_after}

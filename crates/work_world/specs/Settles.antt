@@ -1,5 +1,5 @@
 -- What settling the workers of an application makes of them, and of the names that are sent.
-use Rattle.std.specs.Prelude.{◌≡◌, ◌≢◌, ℕ, ◌<◌, ◌≤◌, Bool, true, false, not, nat_eq, nat_lt, ◌||◌, List, [], ◌++◌, Option, None, IsSome, get_or}
+use Rattle.std.specs.Prelude.{◌≡◌, ◌≢◌, ℕ, Bool, true, false, not, nat_eq, nat_lt, ◌||◌, List, [], ◌++◌, None, IsSome, get_or}
 use Rattle.std.specs.List.{AllByRecursion}
 use Rattle.std.specs.declared.cmp.Ordering.TheVariants.{Less}
 use Rattle.fuxi_terms.specs.declared.Key.{Key}

@@ -5,7 +5,7 @@ use Rattle.written_net.specs.Net.{Ack, Full}
 use Rattle.fuxi_terms.specs.declared.answers.What.TheVariants.{Ack as Acked, Taken}
 use Rattle.written_world.specs.Outputs.{State, Fence, Job, MasterIs, Reported, Grant, Wait, AgentAt, Row, AppAt, Hold, Packets}
 use Rattle.written_world.specs.Events.{StartMaster, StartAgent, StartApp, Submit, Want, Near, TurnMaster, TurnAgent, TurnApp, DeliverRange}
-use Rattle.worked_runs.specs.RunWords.{machine, group, cluster, unit, bounded_unit, job, master, agent, app, sent, heard, heard_new, Run}
+use Rattle.worked_runs.specs.RunWords.{machine, group, cluster, unit, bounded_unit, job, master, agent, app, sent, heard, Run}
 use Rattle.worked_runs.specs.FirstPackets.{one_machine_joins, one_machine_granted, four_machines_join}
 
 abbrev pub one_machine : ClusterRecord

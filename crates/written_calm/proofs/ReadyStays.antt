@@ -1,14 +1,13 @@
 -- A master that is done with a step has nothing to do at the end of the next one, where nothing changes.
 use Rattle.std.proofs.Common.{◌≡◌, ℕ, zero, suc, ◌<◌, Bool, true, false, cond, not, nat_eq, nat_lt, List, [], ◌∷◌, ◌++◌, length, map, Option, Some, None, refl, sym, ◌∙◌, ap, subst, arith}
 use Rattle.std.specs.Prelude.{◌&&◌, ◌||◌, filter}
-use Rattle.std.specs.Option.{option_map, unwrap_or}
 use Rattle.std.specs.List.{AllByRecursion, flat_map, list_all}
 use Rattle.std.proofs.lemmas.Bool.Decides.{nat_tests}
 use Rattle.fuxi_terms.specs.Cluster.{ClusterRecord}
-use Rattle.fuxi_terms.specs.Jobs.{KnownJob, job_of, unit_count, job_numbers}
+use Rattle.fuxi_terms.specs.Jobs.{unit_count, job_numbers}
 use Rattle.fuxi_terms.specs.Keys.{Spot, Pair}
 use Rattle.fuxi_terms.specs.Lists.{below}
-use Rattle.fuxi_terms.specs.Numbers.{has_number, with_number}
+use Rattle.fuxi_terms.specs.Numbers.{has_number}
 use Rattle.fuxi_terms.specs.TallyKeys.{want_key}
 use Rattle.fuxi_terms.proofs.Alls.{all_flat, all_mapped, all_more, all_passed}
 use Rattle.fuxi_terms.proofs.Booleans.{nat_itself, number_is, or_left, or_right}
@@ -18,7 +17,7 @@ use Rattle.written_roles.specs.Placing.{waiting_pairs, has_pair, lined, line_up,
 use Rattle.written_roles.proofs.PlacingEnds.{is_placeable}
 use Rattle.written_roles.proofs.TransitionsLemmas.{ready_besides}
 use Rattle.written_world.specs.Good.{AllWait, IsBounded, IsRangedMaster, IsResting}
-use Rattle.written_world.proofs.SettledLemmas.{job_listed, number_below, number_with, ranged_same, ready_rests}
+use Rattle.written_world.proofs.SettledLemmas.{job_listed, number_below, ranged_same, ready_rests}
 use Rattle.written_world.proofs.TablesInOrder.{ready_waits}
 
 -- a pair with something out is among those that wait

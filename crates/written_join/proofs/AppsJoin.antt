@@ -1,19 +1,15 @@
 -- The steps of an application in the written world are those of the application by itself.
-use Rattle.std.proofs.Common.{◌≡◌, ℕ, Bool, true, false, cond, nat_eq, List, [], ◌∷◌, length, Option, Some, None, Result, Ok, Err, slice_get, refl, sym, ◌∙◌, ap, subst, arith}
-use Rattle.std.specs.Ordering.{nat_cmp, eq_by_cmp}
-use Rattle.std.specs.FinMap.Entries.{find, put, find-put}
-use Rattle.std.specs.Cmp.{nat_cmp_total}
-use Rattle.std.specs.Prelude.{◌&&◌, ◌||◌}
-use Rattle.std.proofs.lemmas.Bool.Decides.{nat_tests}
+use Rattle.std.proofs.Common.{◌≡◌, ℕ, Bool, true, false, cond, List, [], ◌∷◌, length, Option, Some, None, Result, Ok, Err, slice_get, refl, sym, ◌∙◌, ap, subst}
+use Rattle.std.specs.Ordering.{nat_cmp}
+use Rattle.std.specs.FinMap.Entries.{find}
 use Rattle.fuxi_terms.specs.declared.Key.{Key}
 use Rattle.written_net.specs.Net.{Net, Id, Link, Packet, heard_of, unknown}
 use Rattle.written_net.specs.Ledgers.{Ledger, nothing}
 use Rattle.written_net.specs.Channels.{master_id, app_id, party, is_master, publish, Offer, present, shape, HasJoined}
 use Rattle.fuxi_terms.specs.Lists.{below}
-use Rattle.fuxi_terms.specs.Numbers.{has_number}
 use Rattle.written_roles.specs.Refusals.{Refusal, NotRunning, first_refusal, with_found, unless_fault}
 use Rattle.written_world.specs.World.{World, App, Step, unless_refused, refused}
-use Rattle.written_roles.specs.Apps.{Carried, names, carried_one, carry_of, joined_demand, changed_demand, AppCommand, command_tests, command_key, command_number, AppRole, with_app_up, no_excess, app_hears_alone, demands_alone, commands_alone, app_turn, app_resynced, held_by}
+use Rattle.written_roles.specs.Apps.{joined_demand, changed_demand, AppCommand, command_tests, command_key, command_number, AppRole, with_app_up, no_excess, app_hears_alone, demands_alone, commands_alone, app_turn, app_resynced, held_by}
 use Rattle.written_world.specs.Parties.{joined, carry, app_held}
 use Rattle.written_world.specs.Events.{at_app, demanded, asks, usable_now, given_back, turn_to_master, resynced, app_started}
 use Rattle.written_net.specs.Sound.{Sound, PacketNames}

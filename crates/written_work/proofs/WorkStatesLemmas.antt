@@ -1,34 +1,31 @@
 -- Every world to which events lead runs as planned.
-use Rattle.std.proofs.Common.{◌≡◌, ◌≢◌, ℕ, zero, suc, ◌+◌, ◌-◌, ◌<◌, ◌≤◌, Bool, true, false, cond, not, nat_eq, nat_lt, min, List, [], ◌∷◌, ◌++◌, length, map, filter, Option, Some, None, slice_get, refl, sym, ◌∙◌, ap, subst, arith}
-use Rattle.std.specs.Prelude.{◌&&◌, T}
+use Rattle.std.proofs.Common.{◌≡◌, ℕ, zero, suc, ◌+◌, ◌-◌, ◌<◌, ◌≤◌, Bool, true, false, cond, nat_eq, nat_lt, List, [], ◌∷◌, ◌++◌, length, Option, Some, None, slice_get, refl, sym, ◌∙◌, ap, subst, arith}
+use Rattle.std.specs.Prelude.{◌&&◌}
 use Rattle.std.specs.List.{AllByRecursion}
 use Rattle.std.specs.Option.{unwrap_or}
 use Rattle.std.proofs.lemmas.List.{length-append}
 use Rattle.std.proofs.lemmas.Bool.Decides.{nat_tests}
-use Rattle.fuxi_terms.specs.declared.Key.{Key}
-use Rattle.fuxi_terms.specs.Counts.{AreCounts, is_same, set_count}
+use Rattle.fuxi_terms.specs.Counts.{AreCounts, is_same}
 use Rattle.fuxi_terms.specs.Keys.{key_cmp}
 use Rattle.fuxi_terms.specs.Limits.{most_units}
-use Rattle.fuxi_terms.specs.Numbers.{has_number}
 use Rattle.fuxi_terms.specs.Tallies.{TallyRecord, empty_tally}
 use Rattle.fuxi_terms.proofs.Booleans.{both_true, number_is, nat_itself}
 use Rattle.fuxi_terms.proofs.CountsLemmas.{counts-set_count}
 use Rattle.fuxi_terms.proofs.KeyOrders.{key_total, same_key}
 use Rattle.fuxi_terms.proofs.Lists.{all_push}
 use Rattle.fuxi_terms.proofs.SameEntries.{same_entries}
-use Rattle.written_net.specs.Net.{Id, Party, Link, Packet, Net, at_index, last, same_id, same_party, set_at}
+use Rattle.written_net.specs.Net.{Id, Party, Link, Packet, at_index, same_id, same_party, set_at}
 use Rattle.work_plan.specs.Crews.{Distinct}
 use Rattle.work_plan.specs.PlanKeys.{most_workers, greatest_named, worker_key, named}
-use Rattle.work_plan.specs.RunAfter.{run_after}
 use Rattle.written_work.specs.declared.event.WorkEvent.{WorkEvent}
 use Rattle.written_work.specs.declared.event.WorkEvent.TheVariants as event
-use Rattle.written_work.specs.AgentWithApps.{World, empty_world, agent_id, app_id, agent_party, app_party, agent_link, app_link, received, plan_received, seen_running, present}
+use Rattle.written_work.specs.AgentWithApps.{World, agent_id, app_id, agent_party, app_party, agent_link, plan_received, present}
 use Rattle.written_work.specs.WorkSettling.{published, running_of, in_force, work_after, histories_after, settled_all, settled}
-use Rattle.written_work.specs.WorkEvents.{Step, done, refused, counted, with_net, agent_starts, app_starts, row_set, plan_with, plan_set, sends, agent_packets, app_packets, hears, deliver, deliveries, boot_of, heard_at, act, work_step}
+use Rattle.written_work.specs.WorkEvents.{Step, done, counted, with_net, agent_starts, app_starts, row_set, plan_with, plan_set, agent_packets, app_packets, hears, deliver, deliveries, boot_of, heard_at, act}
 use Rattle.written_work.specs.WorkLines.{Lost}
 use Rattle.written_work.specs.GivenEvents.{IsGiven}
-use Rattle.written_work.specs.WorkStates.{RunsAsPlanned, IsCaughtUp, AllRun, IsReached, AtStart, After}
-use Rattle.written_work.proofs.RunAfterLemmas.{Within, runs_distinct, runs_within, runs_many, runs_on}
+use Rattle.written_work.specs.WorkStates.{RunsAsPlanned, IsReached, AtStart, After}
+use Rattle.written_work.proofs.RunAfterLemmas.{runs_distinct, runs_within, runs_many}
 
 -- each plan that was sent is a ledger of names
 pub record IsNames (t : TallyRecord) : Type 0 where

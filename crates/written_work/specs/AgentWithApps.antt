@@ -1,9 +1,9 @@
 -- An agent and its applications, with the histories of what they sent one another.
-use Rattle.std.specs.Prelude.{ℕ, Bool, true, false, nat_eq, ◌&&◌, List, [], ◌∷◌, length}
+use Rattle.std.specs.Prelude.{ℕ, List, [], length}
 use Rattle.fuxi_terms.specs.Lists.{below}
 use Rattle.fuxi_terms.specs.Limits.{most_units, most_jobs}
 use Rattle.fuxi_terms.specs.Tallies.{TallyRecord, empty_tally}
-use Rattle.written_net.specs.Net.{Id, Party, Link, Net, silent, at_index, same_party}
+use Rattle.written_net.specs.Net.{Id, Party, Link, Net, silent, at_index}
 
 -- The boots of the agent and of each application, 0 where it never started; of each unit of an application how many workers may run, and which do, in
 -- the order of their start; of each application the plan in force; and the net. What is sent is a ledger of names. events is how many were taken

@@ -1,5 +1,5 @@
 -- The events that a line can give.
-use Rattle.std.specs.Prelude.{ℕ, ◌<◌, ◌≤◌}
+use Rattle.std.specs.Prelude.{◌<◌, ◌≤◌}
 use Rattle.fuxi_terms.specs.Limits.{most_jobs, most_units, greatest_count}
 use Rattle.work_plan.specs.PlanKeys.{most_workers}
 use Rattle.written_work.specs.declared.event.WorkEvent.{WorkEvent}

@@ -1,12 +1,12 @@
 -- What each event does, and what it prints.
-use Rattle.std.specs.Prelude.{ℕ, zero, suc, ◌+◌, ◌-◌, Bool, true, false, cond, not, nat_eq, nat_lt, ◌||◌, List, [], ◌∷◌, ◌++◌, map, length, Option, Some, None, slice_get}
+use Rattle.std.specs.Prelude.{ℕ, zero, suc, ◌+◌, ◌-◌, Bool, true, false, cond, nat_eq, nat_lt, List, [], ◌∷◌, ◌++◌, map, length, Option, Some, None, slice_get}
 use Rattle.std.specs.List.{flat_map}
 use Rattle.fuxi_terms.specs.declared.Key.{Key}
 use Rattle.fuxi_terms.specs.declared.answers.What.TheVariants.{Stale}
 use Rattle.fuxi_terms.specs.Counts.{set_count}
 use Rattle.fuxi_terms.specs.Keys.{key_cmp}
 use Rattle.fuxi_terms.specs.Tallies.{TallyRecord, empty_tally}
-use Rattle.written_net.specs.Net.{Id, Party, Link, Packet, Heard, Net, Starts, Turns, move, last, unmoved, hear_peer, set_at, turn, with_links}
+use Rattle.written_net.specs.Net.{Id, Party, Link, Packet, Heard, Net, Starts, move, last, unmoved, hear_peer, set_at, turn, with_links}
 use Rattle.work_plan.specs.PlanKeys.{worker_key}
 use Rattle.written_work.specs.declared.event.WorkEvent.{WorkEvent}
 use Rattle.written_work.specs.declared.event.WorkEvent.TheVariants as event

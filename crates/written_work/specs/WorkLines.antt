@@ -1,5 +1,5 @@
 -- The lines that are printed, and the text of each.
-use Rattle.std.specs.Prelude.{ℕ, Bool, cond, List, [], ◌∷◌, ◌++◌, map, codes, decimal}
+use Rattle.std.specs.Prelude.{ℕ, Bool, cond, List, [], ◌∷◌, map, codes, decimal}
 use Rattle.std.specs.List.{flat_map}
 use Rattle.fuxi_terms.specs.declared.answers.What.{What}
 use Rattle.written_net.specs.Net.{Packet}

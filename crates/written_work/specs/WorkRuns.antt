@@ -1,10 +1,9 @@
 -- Runs, and worked runs with the text that they print.
-use Rattle.std.specs.Prelude.{◌≡◌, ℕ, nat_lt, cond, true, false, List, [], ◌∷◌, ◌++◌, length, codes, Option, Some, None}
-use Rattle.std.specs.List.{concat}
+use Rattle.std.specs.Prelude.{ℕ, nat_lt, cond, true, false, List, [], ◌∷◌, ◌++◌, length, Option, Some, None}
 use Rattle.schedule_unit.specs.declared.party.AppNo.{AppNo}
 use Rattle.schedule_unit.specs.declared.party.UnitNo.{UnitNo}
 use Rattle.written_work.specs.declared.event.WorkEvent.{WorkEvent}
-use Rattle.written_work.specs.declared.event.WorkEvent.TheVariants.{Agent, App, Row, Plan, TurnAgent, TurnApp, Deliver, DeliverRange, Show}
+use Rattle.written_work.specs.declared.event.WorkEvent.TheVariants.{Agent, App, Row, Plan, TurnAgent, TurnApp, Deliver, DeliverRange}
 use Rattle.fuxi_terms.specs.declared.answers.What.TheVariants.{Ack as Acked, Taken}
 use Rattle.written_net.specs.Net.{Party, Kind, Ack as AckKind, Full as FullKind}
 use Rattle.written_work.specs.AgentWithApps.{World, empty_world, agent_id, app_id}

@@ -1,12 +1,12 @@
 -- What the agent does at the end of each event.
-use Rattle.std.specs.Prelude.{ℕ, Bool, true, false, nat_eq, ◌&&◌, List, [], ◌∷◌, ◌++◌, map, length}
+use Rattle.std.specs.Prelude.{ℕ, true, false, nat_eq, ◌&&◌, List, [], ◌∷◌, ◌++◌, map}
 use Rattle.std.specs.List.{flat_map}
 use Rattle.std.specs.FinMap.Entries.{put}
 use Rattle.fuxi_terms.specs.declared.Key.{Key}
 use Rattle.fuxi_terms.specs.Counts.{is_same}
 use Rattle.fuxi_terms.specs.Keys.{key_cmp}
 use Rattle.fuxi_terms.specs.Tallies.{TallyRecord}
-use Rattle.written_net.specs.Net.{Id, Party, Net, same_party}
+use Rattle.written_net.specs.Net.{Id, Party, same_party}
 use Rattle.work_plan.specs.PlanKeys.{worker_key, named}
 use Rattle.work_plan.specs.RunAfter.{run_after}
 use Rattle.written_work.specs.AgentWithApps.{World, agent_party, agent_link, plan_received, present, all_units}

@@ -1,13 +1,12 @@
 -- What holds in every state.
-use Rattle.std.specs.Prelude.{◌≡◌, ℕ, ◌<◌, ◌≤◌, true, min, length, List}
+use Rattle.std.specs.Prelude.{◌≡◌, ℕ, true, min, length}
 use Rattle.std.specs.List.{AllByRecursion}
 use Rattle.fuxi_terms.specs.Numbers.{has_number}
-use Rattle.fuxi_terms.specs.Tallies.{TallyRecord}
 use Rattle.written_net.specs.Net.{last}
 use Rattle.work_plan.specs.Crews.{Distinct}
 use Rattle.work_plan.specs.PlanKeys.{named}
 use Rattle.written_work.specs.declared.event.WorkEvent.{WorkEvent}
-use Rattle.written_work.specs.AgentWithApps.{World, empty_world, agent_id, app_id, agent_party, app_party, app_link, seen_running}
+use Rattle.written_work.specs.AgentWithApps.{World, empty_world, app_id, agent_party, app_link, seen_running}
 use Rattle.written_work.specs.WorkSettling.{running_of}
 use Rattle.written_work.specs.WorkEvents.{work_step}
 use Rattle.written_work.specs.GivenEvents.{IsGiven}

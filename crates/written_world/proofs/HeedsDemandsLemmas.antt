@@ -21,12 +21,12 @@ use Rattle.written_net.specs.Sound.{Sound, PacketNames}
 use Rattle.written_net.proofs.BoundedLemmas.{found_within}
 use Rattle.written_net.proofs.NetLemmas.{id_is, party_is}
 use Rattle.written_net.proofs.SoundLemmas.{Grows, taken_names}
-use Rattle.written_net.proofs.PublishLemmas.{same_id_itself, set_here, set_beside, Leaves, leaves_nothing, leaves_then, start_leaves, comes_leaves, publish_links, publish_leaves, publish_grows, grows_itself, grows_then, view_grows, Acted, resync_all_acted}
+use Rattle.written_net.proofs.PublishLemmas.{set_here, set_beside, Leaves, leaves_nothing, leaves_then, start_leaves, comes_leaves, publish_links, publish_leaves, publish_grows, grows_itself, grows_then, view_grows, Acted, resync_all_acted}
 use Rattle.written_roles.specs.Agents.{joined_report}
 use Rattle.written_roles.specs.Apps.{changed_demand, joined_demand, command_key, command_number}
 use Rattle.written_roles.specs.HardState.{HardState, raised, submitted, finished, banned, unbanned, with_job, with_ended}
 use Rattle.written_roles.specs.Masters.{Master, asked, demand_of, credited_of}
-use Rattle.written_roles.specs.MasterSteps.{master_party, talks, peers, ready, is_there, counted, credit, raise_credited, take_report, take_demand, meet_app, ended_in, banned_in, new_master}
+use Rattle.written_roles.specs.MasterSteps.{master_party, talks, peers, ready, is_there, counted, credit, raise_credited, take_demand, meet_app, ended_in, banned_in, new_master}
 use Rattle.written_roles.specs.Preemption.{preempted}
 use Rattle.written_roles.proofs.GrowsAllowed.{ended_job}
 use Rattle.written_roles.proofs.MapLemmas.{found_put, put_beside}

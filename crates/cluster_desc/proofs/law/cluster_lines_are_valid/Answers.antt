@@ -1,4 +1,3 @@
-use Rattle.std.proofs.Common.{◌≡◌, Ok}
 use Rattle.cluster_desc.specs.ClusterLine.{cluster_at, value_of}
 use Rattle.cluster_desc.specs.Faults.{given}
 use Rattle.cluster_desc.specs.declared.fault.ClusterFault.TheVariants.{NotJson}

@@ -1,4 +1,4 @@
-use Rattle.std.proofs.Common.{◌≡◌, ℕ, ◌<◌, ◌≤◌, ◌∷◌, [], Bool, true, false, sym, take, ◌∙◌, ap, arith, lit<, rules}
+use Rattle.std.proofs.Common.{◌≡◌, ℕ, ◌<◌, ◌≤◌, ◌∷◌, [], sym, take, ◌∙◌, ap, arith, lit<, rules}
 use Rattle.std.specs.Prelude.{unsigned_abs}
 use Rattle.std.specs.Int.{from_be_bytes, cast_signed, w32, w64}
 use Rattle.std.proofs.lemmas.Int.{to_z-of_z}

@@ -15,14 +15,8 @@ there c = let lt = c.if-number-len.false in let n = c.len.ensures in omega (arit
 read_is : (c : goal.After-index_mut-wish) → cell_of c.index_mut-wish.result.now ≡ get_or (cells_in c.args.units.now) c.args.key.now.unit no_cell
 read_is c = read_at c.args.units.now.items c.args.key.now.unit c.index_mut-wish.result.now (there c) c.index_mut-wish.ensures.value
 
-pub write_key-requires-clause-near : goal.write_key-requires-clause-near
-write_key-requires-clause-near c = ap (λ (x : Cell). length x.near) (read_is c) ∙ c.requires.near c.args.key.now.unit (there c)
-
-pub write_key-requires-clause-racks : goal.write_key-requires-clause-racks
-write_key-requires-clause-racks c = ap (λ (x : Cell). length x.racks) (read_is c) ∙ c.requires.racks c.args.key.now.unit (there c)
-
-pub write_key-requires-clause-avoided : goal.write_key-requires-clause-avoided
-write_key-requires-clause-avoided c = ap (λ (x : Cell). length x.avoided) (read_is c) ∙ c.requires.avoided c.args.key.now.unit (there c)
+pub write_key-requires : goal.write_key-requires
+write_key-requires c = ap (λ (x : Cell). length x.near) (read_is c) ∙ c.requires c.args.key.now.unit (there c)
 
 pub returns-clause-cells : goal.returns-clause-cells
 returns-clause-cells c =

@@ -1,4 +1,4 @@
-use Rattle.std.proofs.Common.{◌≡◌, ◌++◌, ap, subst, sym, ◌∙◌, map, List}
+use Rattle.std.proofs.Common.{◌++◌, ap, subst, sym, ◌∙◌, map, List}
 use Rattle.std.specs.List.{AllByRecursion}
 use Rattle.std.proofs.lemmas.List.{map-append}
 use Rattle.fuxi_terms.proofs.Alls.{all_append}

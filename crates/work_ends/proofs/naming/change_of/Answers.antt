@@ -8,7 +8,7 @@ use Rattle.fuxi_terms.specs.Counts.{count, change_between}
 use Rattle.fuxi_terms.specs.Tallies.{ChangeRecord}
 use Rattle.work_plan.specs.PlanKeys.{greatest_named}
 use Rattle.work_ends.proofs.NamesLemmas.{count_small, at_most_one}
-use Rattle.fuxi_terms.proofs.MovesLemmas.{rest_from, every, are_same, are_others, moves_rise, moves_skip, moves_put, moves_start, moves_end}
+use Rattle.fuxi_terms.proofs.MovesLemmas.{rest_from, every, are_same, are_others, moves_rise, moves_skip, moves_put}
 use Rattle.work_ends.proofs.naming.change_of.Goals as goal
 
 abbrev none : Key × ℕ

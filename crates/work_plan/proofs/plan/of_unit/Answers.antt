@@ -1,4 +1,4 @@
-use Rattle.std.proofs.Common.{rules, tests, ◌≡◌, ℕ, ◌<◌, ◌≤◌, Bool, true, false, not, nat_lt, List, length, take, drop, get_or, sym, ◌∙◌, ap, subst, arith, Bor}
+use Rattle.std.proofs.Common.{rules, tests, ◌≡◌, ℕ, ◌<◌, ◌≤◌, true, false, List, length, take, drop, get_or, sym, ◌∙◌, ap, subst, arith}
 use Rattle.std.specs.List.Sorted.{IsNonDecreasingBy}
 use Rattle.work_plan.specs.PlanKeys.{of_unit}
 use Rattle.work_plan.specs.Crews.{AreNumbers}

@@ -1,7 +1,6 @@
-use Rattle.std.proofs.Common.{◌≡◌, ◌≢◌, ℕ, ◌+◌, ◌-◌, ◌<◌, ◌≤◌, ◌∷◌, ◌++◌, [], Bool, false, true, length, take, get_or, refl, sym, ◌∙◌, ap, subst, arith, List}
+use Rattle.std.proofs.Common.{◌≡◌, ℕ, ◌+◌, ◌-◌, ◌<◌, ◌≤◌, ◌∷◌, ◌++◌, [], Bool, false, true, length, take, get_or, refl, sym, ◌∙◌, ap, subst, arith, List}
 use Rattle.fuxi_terms.specs.declared.Key.{Key}
 use Rattle.fuxi_terms.specs.Numbers.{has_number}
-use Rattle.slot_pool.specs.Pools.{value_at}
 use Rattle.work_plan.specs.PlanKeys.{most_workers}
 use Rattle.work_plan.specs.RunAfter.{missing}
 use Rattle.work_plan.specs.Crews.{workers_of, numbers_of, AreNumbers, Marks, Starts, IsSquad}

@@ -1,9 +1,7 @@
-use Rattle.std.proofs.Common.{◌≡◌, ℕ, ◌+◌, ◌<◌, ◌≤◌, ◌∷◌, ◌++◌, [], Bool, false, true, length, take, drop, filter, get_or, Some, IsSome, refl, sym, ◌∙◌, ap, subst, arith, List, length-set}
-use Rattle.std.specs.List.{AllByRecursion}
+use Rattle.std.proofs.Common.{◌≡◌, ◌+◌, ◌<◌, ◌∷◌, Bool, false, length, take, drop, get_or, Some, refl, sym, ◌∙◌, subst, arith, length-set}
 use Rattle.fuxi_terms.proofs.Alls.{all_back}
 use Rattle.slot_pool.specs.Pools.{value_at}
-use Rattle.work_plan.specs.PlanKeys.{most_workers}
-use Rattle.work_plan.specs.Crews.{workers_of, IsSquad}
+use Rattle.work_plan.specs.Crews.{IsSquad}
 use Rattle.work_plan.specs.declared.squad.Member.{Member}
 use Rattle.work_plan.proofs.CrewsLemmas.{goes_on, same_behind, front_stays, rest_stays, all_stay, front_full, front_fails, squad_without, middle_below}
 use Rattle.work_plan.proofs.squad.stop_unwanted.Goals as goal

@@ -1,4 +1,4 @@
-use Rattle.std.proofs.Common.{◌≡◌, ℕ, ◌<◌, take, get_or, refl, sym, ◌∙◌, ap, subst, length-set}
+use Rattle.std.proofs.Common.{◌<◌, get_or, refl, sym, ◌∙◌, subst, length-set}
 use Rattle.work_plan.specs.PlanKeys.{most_workers}
 use Rattle.work_plan.specs.Crews.{Marks}
 use Rattle.work_plan.specs.declared.squad.Member.{Member}

@@ -1,4 +1,4 @@
-use Rattle.std.proofs.Common.{refl, sym, ◌∙◌, ap, subst}
+use Rattle.std.proofs.Common.{refl, subst}
 use Rattle.std.proofs.lemmas.Result.{on_ok_weaker}
 use Rattle.work_world.specs.WorkWorlds.{AgentAt, IsAgent}
 use Rattle.work_world.proofs.StartsAndPlans.{agent_counted}

@@ -1,4 +1,4 @@
-use Rattle.std.proofs.Common.{None, get_or, refl, sym, ◌∙◌, ap, subst, arith}
+use Rattle.std.proofs.Common.{None, get_or, refl, sym, subst, arith}
 use Rattle.std.proofs.lemmas.Result.{on_ok_weaker}
 use Rattle.work_world.specs.WorkWorlds.{AppOf}
 use Rattle.work_world.proofs.StartsAndPlans.{app_begun}

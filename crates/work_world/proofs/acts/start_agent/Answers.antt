@@ -1,4 +1,4 @@
-use Rattle.std.proofs.Common.{refl, sym, ◌∙◌, ap, subst, arith}
+use Rattle.std.proofs.Common.{refl, arith}
 use Rattle.work_world.proofs.StartsAndPlans.{agent_begun}
 use Rattle.work_world.proofs.acts.start_agent.Goals as goal
 

@@ -1,8 +1,8 @@
-use Rattle.std.proofs.Common.{◌≡◌, ◌+◌, ◌-◌, true, false, nat_lt, length, sym, ◌∙◌, ap, subst, arith}
+use Rattle.std.proofs.Common.{◌+◌, ◌-◌, true, false, length, sym, ◌∙◌, subst, arith}
 use Rattle.written_work.specs.WorkEvents.{Step, deliveries, refused}
 use Rattle.written_work.specs.WorkLines.{NoPacket}
 use Rattle.work_world.specs.WorkSteps.{StepsTo}
-use Rattle.work_world.proofs.RangesDelivered.{enough, range_begins, range_ends, range_goes}
+use Rattle.work_world.proofs.RangesDelivered.{enough, range_ends, range_goes}
 use Rattle.work_world.proofs.deliveries.deliver_range.Goals as goal
 
 pub loop-number-preserved : goal.loop-number-preserved

@@ -1,4 +1,4 @@
-use Rattle.std.proofs.Common.{◌++◌, ◌∷◌, [], None, Some, refl, sym, ◌∙◌, ap, arith, append-nil, append_assoc}
+use Rattle.std.proofs.Common.{◌++◌, None, Some, sym, ◌∙◌, ap, arith, append-nil, append_assoc}
 use Rattle.work_world.specs.NameChanges.{changed, name_of}
 use Rattle.work_world.proofs.NamesThatChange.{changed_more, none_changed}
 use Rattle.work_world.proofs.numbers.push_changed.Goals as goal

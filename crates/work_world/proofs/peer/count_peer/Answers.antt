@@ -1,4 +1,4 @@
-use Rattle.std.proofs.Common.{refl, arith, rules}
+use Rattle.std.proofs.Common.{refl, rules}
 use Rattle.std.proofs.lemmas.Result.{on_ok_weaker}
 use Rattle.work_world.proofs.SettlesLemmas.{peer_is_counted}
 use Rattle.work_world.proofs.peer.count_peer.Goals as goal

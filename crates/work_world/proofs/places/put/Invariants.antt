@@ -1,4 +1,4 @@
-use Rattle.std.proofs.Common.{◌≡◌, ◌-◌, ◌+◌, ◌<◌, ◌≤◌, ℕ, None, length, get_or, vec_capacity}
+use Rattle.std.proofs.Common.{◌≡◌, ◌-◌, ◌+◌, ◌<◌, ℕ, None, length, get_or, vec_capacity}
 use Rattle.work_world.proofs.places.put.Given as goal
 
 abbrev pub invariant-loop-places : goal.invariant-loop-places

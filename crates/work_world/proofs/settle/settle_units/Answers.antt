@@ -1,5 +1,5 @@
 use Rattle.std.proofs.Common.{arith}
-use Rattle.work_world.proofs.SettlesLemmas.{settled_none, settled_one_more}
+use Rattle.work_world.proofs.SettlesLemmas.{settled_one_more}
 use Rattle.work_world.proofs.settle.settle_units.Goals as goal
 
 pub loop-unit-preserved : goal.loop-unit-preserved

@@ -1,4 +1,3 @@
-use Rattle.std.proofs.Common.{◌≡◌}
 use Rattle.work_world.specs.Settles.{SettlesUnits}
 use Rattle.work_world.proofs.settle.settle_units.Given as goal
 

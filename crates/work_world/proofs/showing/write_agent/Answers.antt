@@ -1,11 +1,9 @@
-use Rattle.std.proofs.Common.{◌≡◌, ◌++◌, ◌∷◌, None, Some, get_or, sym, ◌∙◌, ap, arith}
-use Rattle.std.specs.List.{flat_map}
+use Rattle.std.proofs.Common.{◌≡◌, ◌++◌, sym, ◌∙◌, ap, arith}
 use Rattle.fuxi_terms.specs.Limits.{most_jobs}
-use Rattle.fuxi_terms.specs.Lists.{below}
 use Rattle.written_work.specs.WorkEvents.{agent_app_lines}
 use Rattle.written_work.specs.WorkLines.{AgentIs, line_text, lines_text}
 use Rattle.work_world.proofs.Texts.{one_text}
-use Rattle.work_world.proofs.HistoriesGrow.{at_there, not_there}
+use Rattle.work_world.proofs.HistoriesGrow.{not_there}
 use Rattle.work_world.proofs.StateLines.{agent_more, agent_none, agent_whole, no_app, no_peer_lines, there_app}
 use Rattle.work_world.proofs.showing.write_agent.Goals as goal
 

@@ -1,4 +1,4 @@
-use Rattle.std.proofs.Common.{◌≡◌, ◌++◌, None, Some, get_or, sym, ◌∙◌, ap, map}
+use Rattle.std.proofs.Common.{◌≡◌, ◌++◌, None, Some, get_or, sym, ◌∙◌, ap}
 use Rattle.std.specs.Option.{is_some}
 use Rattle.std.proofs.lemmas.Result.{on_ok_weaker}
 use Rattle.written_work.specs.WorkLines.{PlanAt, line_text}

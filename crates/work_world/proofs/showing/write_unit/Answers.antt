@@ -1,4 +1,4 @@
-use Rattle.std.proofs.Common.{◌≡◌, ◌++◌, ◌∙◌, ap, sym, subst, arith}
+use Rattle.std.proofs.Common.{◌++◌, ◌∙◌, ap, arith}
 use Rattle.work_plan.specs.Crews.{runs_at}
 use Rattle.written_work.specs.WorkLines.{Works, line_text}
 use Rattle.work_world.proofs.Texts.{text_item}

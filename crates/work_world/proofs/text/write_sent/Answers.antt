@@ -1,4 +1,4 @@
-use Rattle.std.proofs.Common.{◌≡◌, ◌+◌, ◌++◌, get_or, sym, ◌∙◌, ap}
+use Rattle.std.proofs.Common.{◌+◌, ◌++◌, ◌∙◌, ap}
 use Rattle.work_ends.specs.Ends.{packet_of}
 use Rattle.written_work.specs.WorkLines.{Line, Sent, line_text}
 use Rattle.work_world.proofs.PacketsStandBehind.{sent_more}

@@ -4,7 +4,7 @@ use Rattle.std.proofs.lemmas.Result.{on_ok_weaker}
 use Rattle.delta_channel.specs.declared.receiver.Place.{Place}
 use Rattle.written_work.specs.AgentWithApps.{agent_id, app_id, app_link, app_party}
 use Rattle.work_world.proofs.HistoriesGrow.{on_ok_both}
-use Rattle.work_world.proofs.PacketsStandBehind.{app_sends, app_silent, end_sends}
+use Rattle.work_world.proofs.PacketsStandBehind.{app_sends, end_sends}
 use Rattle.work_world.proofs.turns.send_to_agent.Goals as goal
 
 pub returns : goal.returns

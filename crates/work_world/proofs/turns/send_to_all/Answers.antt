@@ -1,7 +1,7 @@
-use Rattle.std.proofs.Common.{◌≡◌, sym, ◌∙◌, ap, arith}
+use Rattle.std.proofs.Common.{◌≡◌, sym, ◌∙◌, arith}
 use Rattle.fuxi_terms.specs.Limits.{most_jobs}
 use Rattle.work_world.proofs.HistoriesGrow.{not_there}
-use Rattle.work_world.proofs.PacketsStandBehind.{sends_more, sends_none, sends_nothing, sends_whole}
+use Rattle.work_world.proofs.PacketsStandBehind.{sends_more, sends_none, sends_whole}
 use Rattle.work_world.proofs.StateLines.{no_app, there_app}
 use Rattle.work_world.proofs.turns.send_to_all.Goals as goal
 

@@ -1,4 +1,4 @@
-use Rattle.std.proofs.Common.{◌≡◌, None, Some, get_or, refl, sym, ◌∙◌, ap, subst}
+use Rattle.std.proofs.Common.{◌≡◌, None, Some, get_or, refl, ◌∙◌, ap}
 use Rattle.std.proofs.lemmas.Result.{on_ok_weaker}
 use Rattle.delta_channel.specs.declared.receiver.Place.{Place}
 use Rattle.written_work.specs.AgentWithApps.{agent_id, agent_link, agent_party, app_id}

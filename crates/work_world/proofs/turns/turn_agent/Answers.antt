@@ -1,9 +1,8 @@
-use Rattle.std.proofs.Common.{◌≡◌, ◌≤◌, List, Some, length, refl, sym, ◌∙◌, ap, subst, arith}
+use Rattle.std.proofs.Common.{List, length, refl, sym, ◌∙◌, ap, subst}
 use Rattle.std.proofs.lemmas.Result.{IfErr-weaker, on_ok_weaker}
 use Rattle.work_ends.specs.declared.ends.Parcel.{Parcel}
 use Rattle.written_work.specs.WorkEvents.{act}
 use Rattle.written_work.specs.declared.event.WorkEvent.TheVariants.{TurnAgent}
-use Rattle.written_work.specs.AgentWithApps.{World}
 use Rattle.work_world.specs.WorkSteps.{Exceeds, Finishes}
 use Rattle.work_world.specs.WorkWorlds.{AgentAt, AppsAt, IsAgent}
 use Rattle.work_world.proofs.PacketsStandBehind.{agent_exceeds, agent_turned, kept_within, stops_as}

@@ -1,14 +1,14 @@
-use Rattle.std.proofs.Common.{◌≡◌, ℕ, Bool, true, false, [], nat_eq, nat_lt, length, sym, refl, ◌∙◌, ap}
+use Rattle.std.proofs.Common.{◌≡◌, ℕ, true, false, [], nat_lt, refl, ◌∙◌, ap}
 use Rattle.fuxi_terms.specs.Tallies.{TallyRecord, empty_tally}
-use Rattle.written_net.specs.Net.{Link, at_index}
+use Rattle.written_net.specs.Net.{at_index}
 use Rattle.work_plan.specs.Crews.{Distinct}
 use Rattle.work_plan.specs.PlanKeys.{named}
 use Rattle.work_plan.specs.RunAfter.{run_after}
-use Rattle.written_work.specs.AgentWithApps.{World, agent_id, app_id, agent_party, present}
+use Rattle.written_work.specs.AgentWithApps.{World, agent_id, app_id}
 use Rattle.written_work.specs.WorkEvents.{Step, done, refused, app_starts, counted}
 use Rattle.written_work.specs.WorkLines.{NotRising}
-use Rattle.written_work.specs.WorkSettling.{settled_all, in_force}
-use Rattle.written_work.proofs.WorkStatesLemmas.{IsNames, IsState, reached_state}
+use Rattle.written_work.specs.WorkSettling.{settled_all}
+use Rattle.written_work.proofs.WorkStatesLemmas.{IsNames, reached_state}
 use Rattle.written_work.proofs.RunAfterLemmas.{runs_on}
 use Rattle.written_work.proofs.law.every_world_runs_as_planned.Goals as goal
 

@@ -1,6 +1,5 @@
 use Rattle.std.proofs.Common.{map, length, ap, arith}
 use Rattle.std.proofs.lemmas.List.{length-map}
-use Rattle.fuxi_terms.specs.Limits.{most_packets, most_packet_bytes}
 use Rattle.wire_frames.specs.Frames.{frame}
 use Rattle.packet_pool.specs.PacketPools.{Stored, bytes_of, frames_in}
 use Rattle.packet_pool.proofs.PacketPoolsLemmas.{frames_bytes, pool_more}

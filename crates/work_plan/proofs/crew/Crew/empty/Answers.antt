@@ -1,4 +1,4 @@
-use Rattle.std.proofs.Common.{◌≡◌, ℕ, ◌+◌, ◌<◌, ◌++◌, ◌∷◌, [], List, refl, sym, ◌∙◌, ap, add-one, length, take, get_or}
+use Rattle.std.proofs.Common.{◌≡◌, ℕ, ◌+◌, ◌<◌, ◌++◌, ◌∷◌, [], List, refl, sym, ◌∙◌, ap, add-one, take, get_or}
 use Rattle.std.proofs.Math.Seq.{take-suc}
 use Rattle.work_plan.specs.Crews.{nobody}
 use Rattle.work_plan.specs.declared.squad.Member.{Member}

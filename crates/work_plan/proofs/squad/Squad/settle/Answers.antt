@@ -1,4 +1,4 @@
-use Rattle.std.proofs.Common.{◌≡◌, ◌-◌, sym, ◌∙◌, ap, subst, List, length, take}
+use Rattle.std.proofs.Common.{◌-◌, ◌∙◌, ap, subst, List, length, take}
 use Rattle.work_plan.specs.RunAfter.{missing}
 use Rattle.work_plan.specs.Crews.{Starts, numbers_of, workers_of, stay}
 use Rattle.work_plan.specs.declared.squad.Member.{Member}

@@ -1,4 +1,4 @@
-use Rattle.std.proofs.Common.{◌≡◌, ◌-◌, ◌+◌, ◌<◌, ◌≤◌, ℕ, None, length, get_or, vec_capacity}
+use Rattle.std.proofs.Common.{◌≡◌, ◌-◌, ◌+◌, ◌<◌, ℕ, None, length, get_or, vec_capacity}
 use Rattle.work_plan.proofs.workers.Workers.admit.Given as goal
 
 abbrev pub invariant-loop-self : goal.invariant-loop-self
