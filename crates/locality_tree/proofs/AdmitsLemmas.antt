@@ -41,12 +41,11 @@ none_at : (n : ℕ) → unit_in [] n ≡ no_places
 none_at n = get_or_past [] n no_places (omega arith)
 
 -- with no unit
-pub laid_empty : (at : Slot → Option Node) (spare : ℕ) (q : Queue) (places : ℕ) → Stands at q [] → q.key_first ≡ true → places ≤ 384 → AreLaidOut at spare q [] (replicate places 0)
-laid_empty at spare q places stands order few = record {
+pub laid_empty : (at : Slot → Option Node) (spare : ℕ) (q : Queue) (places : ℕ) → Stands at q [] → places ≤ 384 → AreLaidOut at spare q [] (replicate places 0)
+laid_empty at spare q places stands few = record {
   items = [];
   queued = record {
     stands = stands;
-    by_priority = order;
     numbers = λ i h. absurd h;
     noted = λ i h. absurd h;
     all = λ n s e. absurd (none_some (unit_in [] n).slot s (ap (λ (u : UnitPlaces). u.slot) (none_at n)) e);
@@ -153,7 +152,6 @@ module _ (stays : Stays) (p : Layout) (laid : IsLaidOut p) (first units : ℕ) (
       items = laid.items;
       queued = record {
         stands = stays (value_at p.pool) (value_at pool) p.queue laid.items laid.queued.stands same;
-        by_priority = laid.queued.by_priority;
         numbers = laid.queued.numbers;
         noted = λ i h. (now (number_of i.1)).slot ∙ laid.queued.noted i h;
         all = λ n s e. laid.queued.all n s (sym (now n).slot ∙ e);

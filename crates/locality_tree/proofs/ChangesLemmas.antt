@@ -63,7 +63,6 @@ module _ (at : Slot → Option Node) (spare : ℕ) (q : Queue) (units : List Uni
       items = laid.items;
       queued = record {
         stands = laid.queued.stands;
-        by_priority = laid.queued.by_priority;
         numbers = laid.queued.numbers;
         noted = λ i h. slots (number_of i.1) ∙ laid.queued.noted i h;
         all = λ m s e. laid.queued.all m s (sym (slots m) ∙ e);
@@ -83,13 +82,12 @@ module _ (at : Slot → Option Node) (spare : ℕ) (q : Queue) (units : List Uni
         slots m = by_unit (λ (v : UnitPlaces). v.slot ≡ (unit_in units m).slot) m (λ e. slot ∙ ap (λ (k : ℕ). (unit_in units k).slot) (sym e)) (λ _. refl)
 
     -- the unit begins to wait, where it did not
-    pub laid_more : (after : Slot → Option Node) (q2 : Queue) (front back : List Item) (s : Slot) (e : Entry) (room : ℕ) → laid.items ≡ front ++ back → Stands after q2 (front ++ (s, e) ∷ back) → q2.key_first ≡ true → HasNumber e → number_of e ≡ n → (unit_in units n).slot ≡ None → u.slot ≡ Some s → (unit_in units n).admitted ≡ true → u.admitted ≡ true →
+    pub laid_more : (after : Slot → Option Node) (q2 : Queue) (front back : List Item) (s : Slot) (e : Entry) (room : ℕ) → laid.items ≡ front ++ back → Stands after q2 (front ++ (s, e) ∷ back) → HasNumber e → number_of e ≡ n → (unit_in units n).slot ≡ None → u.slot ≡ Some s → (unit_in units n).admitted ≡ true → u.admitted ≡ true →
         room + 1 ≡ spare → AreLaidOut after room q2 (set units n u) news
-    laid_more after q2 front back s e room is stands by_priority number own none slot old_admitted admitted less = record {
+    laid_more after q2 front back s e room is stands number own none slot old_admitted admitted less = record {
       items = front ++ (s, e) ∷ back;
       queued = record {
         stands = stands;
-        by_priority = by_priority;
         numbers = λ i h. elim (in_middle i front (s, e) back h) as (λ _. HasNumber i.1) [
           | inl g ↦ subst (λ (j : Item). HasNumber j.1) (sym g) number
           | inr g ↦ laid.queued.numbers i (was i g)
@@ -120,12 +118,11 @@ module _ (at : Slot → Option Node) (spare : ℕ) (q : Queue) (units : List Uni
         was i h = subst (λ (l : List Item). In i l) (sym is) h
 
     -- the unit waits no more
-    pub laid_less : Distinct → (after : Slot → Option Node) (q2 : Queue) (front back : List Item) (s : Slot) (e : Entry) (room : ℕ) → laid.items ≡ front ++ (s, e) ∷ back → Stands after q2 (front ++ back) → q2.key_first ≡ true → (unit_in units n).slot ≡ Some s → u.slot ≡ None → room ≡ spare + 1 → AreLaidOut after room q2 (set units n u) news
-    laid_less distinct after q2 front back s e room is stands by_priority old_slot slot more = record {
+    pub laid_less : Distinct → (after : Slot → Option Node) (q2 : Queue) (front back : List Item) (s : Slot) (e : Entry) (room : ℕ) → laid.items ≡ front ++ (s, e) ∷ back → Stands after q2 (front ++ back) → (unit_in units n).slot ≡ Some s → u.slot ≡ None → room ≡ spare + 1 → AreLaidOut after room q2 (set units n u) news
+    laid_less distinct after q2 front back s e room is stands old_slot slot more = record {
       items = front ++ back;
       queued = record {
         stands = stands;
-        by_priority = by_priority;
         numbers = λ i h. laid.queued.numbers i (was i h);
         noted = λ i h. by_unit (λ (v : UnitPlaces). v.slot ≡ Some i.0) (number_of i.1) (λ f. absurd (not_there i h f)) (λ _. laid.queued.noted i (was i h));
         all = λ m r. by_unit (λ (v : UnitPlaces). v.slot ≡ Some r → (f : Entry) × In (r, f) (front ++ back) × (number_of f ≡ m)) m
@@ -308,14 +305,14 @@ module _ (p : Layout) (laid : IsLaidOut p) where
       let old = laid.counted k h in
       omega (arith, change, places, old)
 
-  pub enters : Entries → One → (e : Entry) (may : MayBegin p e) → (unit_in units_of (number_of e)).slot ≡ None → (s : Slot) (pool : PoolRecord Node) (q2 : Queue) (us : Vec UnitPlaces) (has : HasPlace at_of p.queue e) → Stands (value_at pool) q2 (has.front ++ (s, e) ∷ has.back) → q2.key_first ≡ p.queue.key_first → pool.spare + 1 ≡ p.pool.spare →
+  pub enters : Entries → One → (e : Entry) (may : MayBegin p e) → (unit_in units_of (number_of e)).slot ≡ None → (s : Slot) (pool : PoolRecord Node) (q2 : Queue) (us : Vec UnitPlaces) (has : HasPlace at_of p.queue e) → Stands (value_at pool) q2 (has.front ++ (s, e) ∷ has.back) → pool.spare + 1 ≡ p.pool.spare →
       us.items ≡ set units_of (number_of e) (record (unit_in units_of (number_of e)) { slot = Some s }) → Begins p (record p { pool = pool; queue = q2; units = us }) e (unit_in units_of (number_of e)).places
-  enters law one e may outside s pool q2 us has stands order spare is = record {
+  enters law one e may outside s pool q2 us has stands spare is = record {
     slot = Some s;
     changes = record {
       laid = subst (λ (l : List UnitPlaces). AreLaidOut (value_at pool) pool.spare q2 l p.counts.items) (sym is_units)
           (laid_more at_of p.pool.spare p.queue units_of p.counts.items laid n u may.inside p.counts.items (λ f. absurd (not_both true refl f)) refl (counts_stay n u may.inside refl)
-          (value_at pool) q2 has.front has.back s e pool.spare same_items stands (order ∙ laid.queued.by_priority) may.number refl outside refl may.admitted refl spare);
+          (value_at pool) q2 has.front has.back s e pool.spare same_items stands may.number refl outside refl may.admitted refl spare);
       units = is_units;
       others = λ m d. wait_still law (value_at pool) q2 (has.front ++ (s, e) ∷ has.back) stands m (λ i h _. in_wider i has.front (s, e) has.back (subst (λ (l : List Item). In i l) same_items h));
       count = refl;
@@ -384,14 +381,14 @@ module _ (p : Layout) (laid : IsLaidOut p) where
       nowhere = nowhere;
     }
 
-    pub leaves_some : Entries → Distinct → (slot : Slot) (noted : (unit_in units_of n).slot ≡ Some slot) (q : IsIn at_of p.queue slot) → laid.items ≡ q.front ++ (slot, q.entry) ∷ q.back → (pool : PoolRecord Node) (q2 : Queue) → Stands (value_at pool) q2 (q.front ++ q.back) → q2.key_first ≡ p.queue.key_first → pool.spare ≡ p.pool.spare + 1 →
+    pub leaves_some : Entries → Distinct → (slot : Slot) (noted : (unit_in units_of n).slot ≡ Some slot) (q : IsIn at_of p.queue slot) → laid.items ≡ q.front ++ (slot, q.entry) ∷ q.back → (pool : PoolRecord Node) (q2 : Queue) → Stands (value_at pool) q2 (q.front ++ q.back) → pool.spare ≡ p.pool.spare + 1 →
         LeavesAll p (record { pool = pool; queue = q2; units = us; counts = cs }) n
     unfolding gone
-    leaves_some law distinct slot noted q items pool q2 stands order spare = record {
+    leaves_some law distinct slot noted q items pool q2 stands spare = record {
       places = s;
       changes = record {
         laid = subst (λ (l : List UnitPlaces). AreLaidOut (value_at pool) pool.spare q2 l cs.items) (sym is)
-            (laid_less at_of p.pool.spare p.queue units_of p.counts.items laid n gone inside cs.items bare len counted distinct (value_at pool) q2 q.front q.back slot q.entry pool.spare items stands (order ∙ laid.queued.by_priority) noted refl spare);
+            (laid_less at_of p.pool.spare p.queue units_of p.counts.items laid n gone inside cs.items bare len counted distinct (value_at pool) q2 q.front q.back slot q.entry pool.spare items stands noted refl spare);
         units = is;
         others = λ m d. wait_still law (value_at pool) q2 (q.front ++ q.back) stands m (λ i h number. elim (in_middle i q.front (slot, q.entry) q.back (subst (λ (l : List Item). In i l) items h)) as (λ _. In i (q.front ++ q.back)) [
           | inl e ↦ absurd (d (sym number ∙ ap (λ (j : Item). number_of j.1) e ∙ own))

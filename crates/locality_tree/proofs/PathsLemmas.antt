@@ -88,14 +88,14 @@ module _ (levels : Entry → ℕ) (priority level : ℕ) (e : Entry) where
     | inr most ↦ inr (grind (arith, nat_tests, h, most), grind (arith, nat_tests, h, most))
   ]
 
-before_falls : (a b : Entry) → is_before true a b ≡ true → b.priority ≤ a.priority
+before_falls : (a b : Entry) → is_before a b ≡ true → b.priority ≤ a.priority
 before_falls a b h = grind (arith, nat_tests)
 
 -- in order, none has a greater priority than the first
-pub behind_falls : (e : Entry) (is : List Item) → AreBehind true e is → (i : Item) → In i is → i.1.priority ≤ e.priority
-behind_falls e is h i g = before_falls e i.1 (all_in (λ (j : Item). is_before true e j.1 ≡ true) is i h g)
+pub behind_falls : (e : Entry) (is : List Item) → AreBehind e is → (i : Item) → In i is → i.1.priority ≤ e.priority
+behind_falls e is h i g = before_falls e i.1 (all_in (λ (j : Item). is_before e j.1 ≡ true) is i h g)
 
-pub head_falls : (priority : ℕ) (items : List Item) → IsInOrder true items → Heads priority items → (i : Item) → In i items → i.1.priority ≤ priority
+pub head_falls : (priority : ℕ) (items : List Item) → IsInOrder items → Heads priority items → (i : Item) → In i items → i.1.priority ≤ priority
 head_falls priority [] o h i g = absurd g
 head_falls priority (j ∷ js) o h i (inl e) = let same = ap (λ (x : Item). x.1.priority) e in omega (arith, same, h)
 head_falls priority (j ∷ js) o h i (inr g) = let less = behind_falls j.1 js o.0 i g in omega (arith, less, h)
@@ -135,17 +135,17 @@ way_small at (Some s) = by (entry_at at s)
     by None = omega arith
     by (Some e) = omega arith
 
-rank_small : (e : Entry) → IsInRange e → rank true e < 2 ^ 72
+rank_small : (e : Entry) → IsInRange e → rank e < 2 ^ 72
 rank_small e f = let a = f.0 in let b = f.1 in omega arith
 
-module _ (entries : Entries) (parts : Parts) (rises : Rises) (at : Slot → Option Node) (q : Queue) (by_priority_first : q.key_first ≡ true) (done : List Item) (i : Item) (back : List Item) (t : Stands at q (done ++ i ∷ back)) where
+module _ (entries : Entries) (parts : Parts) (rises : Rises) (at : Slot → Option Node) (q : Queue) (done : List Item) (i : Item) (back : List Item) (t : Stands at q (done ++ i ∷ back)) where
   here_in : In i (done ++ i ∷ back)
   here_in = in_here done i back
 
   range : IsInRange i.1
   range = all_in (λ (j : Item). IsInRange j.1) (done ++ i ∷ back) i t.in_range here_in
 
-  pub way_is : way_left at (Some i.0) ≡ 2 ^ 72 - rank true i.1
+  pub way_is : way_left at (Some i.0) ≡ 2 ^ 72 - rank i.1
   way_is = ap left_of (member_entry entries at q (done ++ i ∷ back) t i here_in)
 
   pub way_end : 0 < way_left at (Some i.0)
@@ -155,12 +155,12 @@ module _ (entries : Entries) (parts : Parts) (rises : Rises) (at : Slot → Opti
   way_falls j h =
       let among : In j (done ++ i ∷ back) = in_right j done (i ∷ back) (inr h) in
       let theirs = all_in (λ (k : Item). IsInRange k.1) (done ++ i ∷ back) j t.in_range among in
-      let order = (parts q.key_first done (i ∷ back) t.ordered).1 in
-      let before : is_before q.key_first i.1 j.1 ≡ true = all_in (λ (k : Item). is_before q.key_first i.1 k.1 ≡ true) back j order.0 h in
-      let less = rises true i.1 j.1 range theirs (subst (λ (b : Bool). is_before b i.1 j.1 ≡ true) by_priority_first before) in
+      let order = (parts done (i ∷ back) t.ordered).1 in
+      let before : is_before i.1 j.1 ≡ true = all_in (λ (k : Item). is_before i.1 k.1 ≡ true) back j order.0 h in
+      let less = rises i.1 j.1 range theirs before in
       let small = rank_small j.1 theirs in
       let is = way_is in
-      let other : way_left at (Some j.0) ≡ 2 ^ 72 - rank true j.1 = ap left_of (member_entry entries at q (done ++ i ∷ back) t j among) in
+      let other : way_left at (Some j.0) ≡ 2 ^ 72 - rank j.1 = ap left_of (member_entry entries at q (done ++ i ∷ back) t j among) in
       omega (arith, less, small, is, other)
 
   pub way_behind : (o : Option Slot) → o ≡ first_of back None → way_left at o < way_left at (Some i.0)
@@ -229,11 +229,11 @@ module _ (entries : Entries) (p : Path) (pairs : List RankedEntry) (l : Leads p 
   is_in s a = record { front = l.done ++ l.band; entry = a.entry; back = a.back; stands = at_stands s a }
 
   module _ (parts : Parts) where
-    pub in_order : IsInOrder true whole
-    in_order = subst (λ (b : Bool). IsInOrder b whole) l.by_priority (parts q.key_first l.done whole l.stands.ordered).1
+    pub in_order : IsInOrder whole
+    in_order = (parts l.done whole l.stands.ordered).1
 
-    pub tail_order : IsInOrder true l.tail
-    tail_order = (parts true l.band l.tail in_order).1
+    pub tail_order : IsInOrder l.tail
+    tail_order = (parts l.band l.tail in_order).1
 
     pub low_all : (i : Item) → In i whole → i.1.priority ≤ p.priority
     low_all = head_falls p.priority whole in_order l.heads
@@ -242,7 +242,7 @@ module _ (entries : Entries) (p : Path) (pairs : List RankedEntry) (l : Leads p 
     pub tail_less : IsHere p None → (i : Item) → In i l.tail → i.1.priority < p.priority
     tail_less none i h = of_tail l.tail refl tail_order i h
       where
-        of_tail : (t : List Item) → l.tail ≡ t → IsInOrder true t → (i : Item) → In i t → i.1.priority < p.priority
+        of_tail : (t : List Item) → l.tail ≡ t → IsInOrder t → (i : Item) → In i t → i.1.priority < p.priority
         of_tail [] f o i h = absurd h
         of_tail (j ∷ js) f o i h =
             let among : In j whole = in_tail j (subst (λ (x : List Item). In j x) (sym f) (inl refl)) in
@@ -279,7 +279,6 @@ module _ (entries : Entries) (parts : Parts) (rises : Rises) (p : Path) (pairs :
       band = on;
       tail = a.back;
       stands = stands_on;
-      by_priority = l.by_priority;
       numbers = λ i h. l.numbers i (subst (λ (x : List Item). In i x) longer h);
       start = l.start ∙ ap (λ (x : List Item). first_of x None) (sym longer);
       here = behind_at;
@@ -315,7 +314,7 @@ module _ (entries : Entries) (parts : Parts) (rises : Rises) (p : Path) (pairs :
             ∙ ap (λ (x : List RankedEntry). kept_of (is_of levels_here p.priority p.level) levels_here a.back ++ x) (sym later_same)
 
     pub way_on : way_left (value_at p.pool.now) behind < way_left (value_at p.pool.now) (Some s)
-    way_on = way_behind entries parts rises (value_at p.pool.now) p.queue.now l.by_priority (l.done ++ l.band) item a.back (at_stands entries p pairs l s a) behind behind_at
+    way_on = way_behind entries parts rises (value_at p.pool.now) p.queue.now (l.done ++ l.band) item a.back (at_stands entries p pairs l s a) behind behind_at
 
     pub gives : a.entry.priority ≡ p.priority → levels_here a.entry ≡ p.level → (rest : List RankedEntry) × (pairs ≡ (a.entry, p.level) ∷ rest) × Leads (record p { at = behind }) rest
     gives same level =
@@ -336,15 +335,15 @@ module _ (entries : Entries) (parts : Parts) (rises : Rises) (p : Path) (pairs :
             ∙ ap (λ (k : ℕ). (a.entry, k) ∷ ofs) level)
             ∙ ap (λ (x : List RankedEntry). best_pair ∷ (ofs ++ x)) (sym later_same)
 
-        order : AreBehind true a.entry a.back
-        order = (subst (λ (x : List Item). IsInOrder true x) a.is (tail_order entries p pairs l parts)).0
+        order : AreBehind a.entry a.back
+        order = (subst (λ (x : List Item). IsInOrder x) a.is (tail_order entries p pairs l parts)).0
 
         best : (r : RankedEntry) → In r (left_in levels_here p.priority p.level on a.back) → ranks_before best_pair r ≡ true
         best r h = elim (in_append r ofs (kept_of (is_later levels_here p.priority p.level) levels_here (on ++ a.back)) h) as (λ _. ranks_before best_pair r ≡ true) [
           | inl g ↦
               let k = kept_out (is_of levels_here p.priority p.level) levels_here a.back r g in
               let of = of_is levels_here p.priority p.level k.item.1 k.kept in
-              let before : is_before true a.entry k.item.1 ≡ true = all_in (λ (j : Item). is_before true a.entry j.1 ≡ true) a.back k.item order k.among in
+              let before : is_before a.entry k.item.1 ≡ true = all_in (λ (j : Item). is_before a.entry j.1 ≡ true) a.back k.item order k.among in
               subst (λ (x : RankedEntry). ranks_before best_pair x ≡ true) (sym k.is) (subst (λ (n : ℕ). ranks_before best_pair (k.item.1, n) ≡ true) (sym of.1) (by_order p.level a.entry k.item.1 before))
           | inr g ↦
               let k = kept_out (is_later levels_here p.priority p.level) levels_here (on ++ a.back) r g in
@@ -378,7 +377,6 @@ module _ (entries : Entries) (parts : Parts) (rises : Rises) (p : Path) (pairs :
     band = [];
     tail = l.band ++ l.tail;
     stands = l.stands;
-    by_priority = l.by_priority;
     numbers = l.numbers;
     start = l.start;
     here = l.start;
@@ -468,7 +466,6 @@ module _ (entries : Entries) (parts : Parts) (rises : Rises) (p : Path) (pairs :
     band = [];
     tail = l.tail;
     stands = subst (λ (x : List Item). Stands (value_at p.pool.now) p.queue.now x) (sym (append_assoc l.done l.band l.tail)) l.stands;
-    by_priority = l.by_priority;
     numbers = λ i h. l.numbers i (in_right i l.band l.tail h);
     start = l.here;
     here = l.here;
@@ -501,7 +498,7 @@ module _ (entries : Entries) (parts : Parts) (rises : Rises) (p : Path) (pairs :
           let there : In (s, a.entry) (bs ++ l.tail) = in_right (s, a.entry) bs l.tail (subst (λ (x : List Item). In (s, a.entry) x) (sym a.is) (inl refl)) in
           subst (λ (o : Option Slot). way_left (value_at p.pool.now) p.at < way_left (value_at p.pool.now) o) (sym start)
           (subst (λ (o : Option Slot). way_left (value_at p.pool.now) o < way_left (value_at p.pool.now) (Some b.0)) (sym at_is)
-          (way_falls entries parts rises (value_at p.pool.now) p.queue.now l.by_priority l.done b (bs ++ l.tail) stands (s, a.entry) there))
+          (way_falls entries parts rises (value_at p.pool.now) p.queue.now l.done b (bs ++ l.tail) stands (s, a.entry) there))
 
 -- a greater level, an earlier start, or less of the way
 pub looks_level : (start before after level high : ℕ) → after ≤ 2 ^ 72 → level + 1 ≤ high → high ≤ 2 → (3 * start + (2 - high)) * (2 ^ 72 + 1) + after < (3 * start + (2 - level)) * (2 ^ 72 + 1) + before
@@ -514,14 +511,13 @@ pub looks_way : (rest before after : ℕ) → after < before → rest + after < 
 looks_way rest before after less = omega (arith, less)
 
 -- a walk from the beginning
-pub starts : (p : Path) (pairs : List RankedEntry) (items : List Item) → Stands (value_at p.pool.now) p.queue.now items → p.queue.now.key_first ≡ true → ((i : Item) → In i items → HasNumber i.1) → p.start ≡ first_of items None → p.at ≡ first_of items None → Heads p.priority items →
+pub starts : (p : Path) (pairs : List RankedEntry) (items : List Item) → Stands (value_at p.pool.now) p.queue.now items → ((i : Item) → In i items → HasNumber i.1) → p.start ≡ first_of items None → p.at ≡ first_of items None → Heads p.priority items →
     p.near_place < 384 → p.rack_place < 384 → p.level ≤ 2 → ((k : ℕ) → 0 ≤ k → k < p.level → has_level p.has_near p.has_rack k ≡ false) → ((l : ℕ) → has_level p.has_near p.has_rack l ≡ false → (e : Entry) → levels_of p e ≢ l) → IsRanking pairs (with_levels (levels_of p) items) → Leads p pairs
-starts p pairs items stands order numbers start at heads near rack low between none ranking = record {
+starts p pairs items stands numbers start at heads near rack low between none ranking = record {
   done = [];
   band = [];
   tail = items;
   stands = stands;
-  by_priority = order;
   numbers = numbers;
   start = start;
   here = at;
@@ -531,7 +527,7 @@ starts p pairs items stands order numbers start at heads near rack low between n
   rack_inside = rack;
   low = low;
   none = λ l e i h. none l e i.1;
-  ranking = fresh (levels_of p) p.priority p.level items pairs (head_falls p.priority items (subst (λ (b : Bool). IsInOrder b items) order stands.ordered) heads)
+  ranking = fresh (levels_of p) p.priority p.level items pairs (head_falls p.priority items stands.ordered heads)
       (λ i h. elim (cases_lt (levels_of p i.1) p.level) as (λ _. p.level ≤ levels_of p i.1) [ inl less ↦ absurd (none (levels_of p i.1) (between (levels_of p i.1) (omega arith) less) i.1 refl) | inr ge ↦ ge ]) ranking;
 }
 

@@ -23,10 +23,10 @@ abbrev pub Stays : Type 0
 Stays = (at after : Slot → Option Node) (q : Queue) (items : List Item) → Stands at q items → ((slot : Slot) → after slot ≡ at slot) → Stands after q items
 
 abbrev pub Parts : Type 0
-Parts = (key_first : Bool) (front back : List Item) → IsInOrder key_first (front ++ back) → IsInOrder key_first front × IsInOrder key_first back × AllByRecursion (λ (i : Item). AreBehind key_first i.1 back) front
+Parts = (front back : List Item) → IsInOrder (front ++ back) → IsInOrder front × IsInOrder back × AllByRecursion (λ (i : Item). AreBehind i.1 back) front
 
 abbrev pub Rises : Type 0
-Rises = (key_first : Bool) (one other : Entry) → IsInRange one → IsInRange other → is_before key_first one other ≡ true → rank key_first one < rank key_first other
+Rises = (one other : Entry) → IsInRange one → IsInRange other → is_before one other ≡ true → rank one < rank other
 
 -- at the slot of a member its entry stands
 pub member_entry : Entries → (at : Slot → Option Node) (q : Queue) (items : List Item) → Stands at q items → (i : Item) → In i items → entry_at at i.0 ≡ Some i.1

@@ -25,7 +25,7 @@ by_level p q l k e f less h = grind (arith, nat_tests)
 pub by_priority : (p q : RankedEntry) → q.0.priority < p.0.priority → ranks_before p q ≡ true
 by_priority p q h = grind (arith, nat_tests)
 
-pub by_order : (l : ℕ) (a b : Entry) → is_before true a b ≡ true → ranks_before (a, l) (b, l) ≡ true
+pub by_order : (l : ℕ) (a b : Entry) → is_before a b ≡ true → ranks_before (a, l) (b, l) ≡ true
 by_order l a b h = grind (arith, nat_tests)
 
 least_first : (pairs : List RankedEntry) (b : RankedEntry) → IsRanked pairs → In b pairs → ((q : RankedEntry) → In q pairs → (q ≡ b) ⊎ (ranks_before b q ≡ true)) → (rest : List RankedEntry) × (pairs ≡ b ∷ rest)
@@ -113,7 +113,7 @@ put_ranked p (q ∷ qs) r d = on (ranks_before p q) refl (put_ranked p qs r.1 d.
           rest,
         )
 
-one_ranks : (a b : Entry) (l k : ℕ) → is_before true a b ≡ true → AreComparable (a, l) (b, k)
+one_ranks : (a b : Entry) (l k : ℕ) → is_before a b ≡ true → AreComparable (a, l) (b, k)
 one_ranks a b l k h = by (nat_eq a.priority b.priority) refl (nat_lt k l) refl
   where
     by : (x : Bool) → nat_eq a.priority b.priority ≡ x → (y : Bool) → nat_lt k l ≡ y → AreComparable (a, l) (b, k)
@@ -125,7 +125,7 @@ pub record Sorted (level : Entry → ℕ) (items : List Item) : Type 0 where
   pub pairs : List RankedEntry
   pub ranking : IsRanking pairs (with_levels level items)
 
-pub sorted : (level : Entry → ℕ) (items : List Item) → IsInOrder true items → Sorted level items
+pub sorted : (level : Entry → ℕ) (items : List Item) → IsInOrder items → Sorted level items
 sorted level [] o = record { pairs = []; ranking = record { ranked = tt; sound = λ p g. g; complete = λ p g. g } }
 sorted level (i ∷ is) o =
     let s = sorted level is o.1 in
@@ -140,6 +140,6 @@ sorted level (i ∷ is) o =
       };
     }
   where
-    all_rank : (is : List Item) → AreBehind true i.1 is → AllByRecursion (AreComparable (i.1, level i.1)) (with_levels level is)
+    all_rank : (is : List Item) → AreBehind i.1 is → AllByRecursion (AreComparable (i.1, level i.1)) (with_levels level is)
     all_rank [] h = tt
     all_rank (j ∷ js) h = (one_ranks i.1 j.1 (level i.1) (level j.1) h.0, all_rank js h.1)

@@ -8,7 +8,7 @@ use Rattle.slot_pool.specs.Pools.{value_at}
 use Rattle.slot_pool.specs.declared.pool.Slot.{Slot}
 use Rattle.wait_queue.specs.declared.node.Entry.{Entry}
 use Rattle.wait_queue.specs.declared.node.Node.{Node}
-use Rattle.wait_queue.specs.Queues.{Item, IsInOrder}
+use Rattle.wait_queue.specs.Queues.{Item}
 use Rattle.fuxi_terms.proofs.Booleans.{not_both}
 use Rattle.fuxi_terms.proofs.Members.{In}
 use Rattle.locality_tree.specs.declared.layout.Layout.{Layout}
@@ -429,8 +429,7 @@ module _ (law : Entries) (racks : List ℕ) (p : Layout) (t : IsTree racks p) (m
 
   pub has_path : (Leads : List RankedEntry → Type 0) → ((pairs : List RankedEntry) → IsRanking pairs (with_levels level t.laid.items) → Leads pairs) → HasPath (tree_record racks p) m Leads
   has_path Leads leads =
-      let order = subst (λ (b : Bool). IsInOrder b t.laid.items) t.laid.queued.by_priority t.laid.queued.stands.ordered in
-      let s = sorted level t.laid.items order in
+      let s = sorted level t.laid.items t.laid.queued.stands.ordered in
       let r = s.ranking in
       record {
         pairs = s.pairs;

@@ -45,10 +45,9 @@ standing_at units k = count_by (λ u. in_set u.places k) units
 abbrev pub vacancies : List UnitPlaces → ℕ
 vacancies units = count_by (λ u. u.admitted && is_none u.slot) units
 
--- The queue stands in the pool as these items, by priority, and these are the slots that the units have.
+-- The queue stands in the pool as these items, and these are the slots that the units have.
 pub record AreQueued (at : Slot → Option Node) (q : Queue) (units : List UnitPlaces) (items : List Item) : Type 0 where
   pub stands : Stands at q items
-  pub by_priority : q.key_first ≡ true
   pub numbers : (i : Item) → In i items → HasNumber i.1
   pub noted : (i : Item) → In i items → (unit_in units (number_of i.1)).slot ≡ Some i.0
   pub all : (n : ℕ) (s : Slot) → (unit_in units n).slot ≡ Some s → (e : Entry) × In (s, e) items × (number_of e ≡ n)

@@ -62,7 +62,6 @@ pub record Leads (p : Path) (pairs : List RankedEntry) : Type 0 where
   pub band : List Item
   pub tail : List Item
   pub stands : Stands (value_at p.pool.now) p.queue.now (done ++ (band ++ tail))
-  pub by_priority : p.queue.now.key_first ≡ true
   pub numbers : (i : Item) → In i (band ++ tail) → HasNumber i.1
   pub start : p.start ≡ first_of (band ++ tail) None
   pub here : p.at ≡ first_of tail None
@@ -92,7 +91,7 @@ IsHere p (Some h) = (p.at ≡ Some h.0) × (entry_at (value_at p.pool.now) h.0 �
 -- a number that falls along the queue, and one that falls with each look
 abbrev pub left_of : Option Entry → ℕ
 left_of None = 0
-left_of (Some e) = 2 ^ 72 - rank true e
+left_of (Some e) = 2 ^ 72 - rank e
 
 abbrev pub way_left : (Slot → Option Node) → Option Slot → ℕ
 way_left at None = 0

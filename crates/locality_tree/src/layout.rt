@@ -112,7 +112,7 @@ impl Layout {
     {
         Ok(Layout {
             pool: Pool::with_room(alloc, 0)?,
-            queue: Queue::new(true),
+            queue: Queue::new(),
             units: Vec::new(alloc),
             counts: Vec::from_elem(alloc, 0, places)?,
         })
@@ -154,7 +154,6 @@ impl Layout {
         ensures { Begins self.old self.new entry.now (unit_in self.old.units.items (number_of entry.now)).places }
     {
         law::standing_lists();
-        law::orders();
         law::places();
         let slot = self.queue.insert(&mut self.pool, *entry);
         let unit = &mut self.units[number_of(entry)];
@@ -183,7 +182,6 @@ impl Layout {
         ensures { LeavesAll self.old self.new (number_of entry.now) }
     {
         law::standing_lists();
-        law::orders();
         let unit = &mut self.units[number_of(entry)];
         uncount(&mut self.counts, &unit.places);
         unit.places = PlaceSet::new();

@@ -1,5 +1,5 @@
 -- A queue into which an entry was put at its place stands as the list with it.
-use Rattle.std.proofs.Common.{◌≡◌, ◌≢◌, ℕ, ◌<◌, Bool, true, cond, List, [], ◌∷◌, ◌++◌, length, get_or, set, Option, Some, None, is_some, IsSome, refl, sym, ap, subst, ◌∙◌}
+use Rattle.std.proofs.Common.{◌≡◌, ◌≢◌, ◌<◌, true, cond, List, [], ◌∷◌, ◌++◌, length, set, Option, Some, None, is_some, IsSome, refl, sym, ap, subst, ◌∙◌}
 use Rattle.std.specs.Prelude.{IfSome}
 use Rattle.std.specs.List.{AllByRecursion}
 use Rattle.fuxi_terms.proofs.Alls.{all_more, all_append, all_front, all_back}
@@ -7,7 +7,7 @@ use Rattle.slot_pool.specs.declared.pool.Slot.{Slot}
 use Rattle.wait_queue.specs.declared.node.Entry.{Entry}
 use Rattle.wait_queue.specs.declared.node.Node.{Node}
 use Rattle.wait_queue.specs.declared.queue.Queue.{Queue}
-use Rattle.wait_queue.specs.Queues.{Item, is_before, IsInRange, AreBehind, IsInOrder, IsOutside, first_of, last_of, band, band_end, link, AreLinked, Stands, IsPlace}
+use Rattle.wait_queue.specs.Queues.{Item, is_before, IsInRange, AreBehind, IsOutside, first_of, last_of, band, link, AreLinked, Stands, IsPlace}
 use Rattle.wait_queue.specs.Neighbours.{Relinked, with_behind, with_before, Follows, has_band}
 use Rattle.wait_queue.proofs.QueuesLemmas.{order_distinct, order_parts, order_append, linked_parts, linked_append, linked_same, first_append, first_live, last_live, outside_absent}
 use Rattle.wait_queue.proofs.NeighboursLemmas.{AreParted, parted, back_stays, AreTied, tied, follows_last, first_tied}
@@ -26,7 +26,7 @@ beside_place at put q e front s back p absent kept =
     let linked = linked_parts at None front back None h.linked in
     let outside = outside_absent at None (front ++ back) None s h.linked absent in
     record {
-      are_parted = parted front back (order_distinct at q.key_first None (front ++ back) None h.linked h.ordered);
+      are_parted = parted front back (order_distinct at None (front ++ back) None h.linked h.ordered);
       front_linked = linked_same at put None front (first_of back None) linked.0 (all_more (λ (i : Item). i.0 ≢ s) (λ (i : Item). put i.0 ≡ at i.0) (λ i d. kept i.0 d) front (all_front (λ (i : Item). i.0 ≢ s) front back outside));
       back_linked = linked_same at put (last_of None front) back None linked.1 (all_more (λ (i : Item). i.0 ≢ s) (λ (i : Item). put i.0 ≡ at i.0) (λ i d. kept i.0 d) back (all_back (λ (i : Item). i.0 ≢ s) front back outside));
       outside = outside;
@@ -63,10 +63,9 @@ pub record Inserts (at put between after : Slot → Option Node) (q more : Queue
   pub kept : (t : Slot) → t ≢ s → put t ≡ at t
   pub one : Relinked put between before (with_behind (Some s))
   pub two : Relinked between after behind (with_before (Some s))
-  pub key_first : more.key_first ≡ q.key_first
   pub first : more.first ≡ cond (is_some before) q.first (Some s)
-  pub long : band q.key_first e < length q.ends
-  pub ends : more.ends ≡ cond (has_band put q.key_first (band q.key_first e) behind) q.ends (set q.ends (band q.key_first e) (Some s))
+  pub long : band e < length q.ends
+  pub ends : more.ends ≡ cond (has_band put (band e) behind) q.ends (set q.ends (band e) (Some s))
 
 module _ (at put between after : Slot → Option Node) (q more : Queue) (s : Slot) (e : Entry) (before behind : Option Slot) (r : Inserts at put between after q more s e before behind)
     (front back : List Item) (p : IsPlace at q e front back) (is_before_last : before ≡ last_of None front) (is_behind_first : behind ≡ first_of back None) where
@@ -85,20 +84,18 @@ module _ (at put between after : Slot → Option Node) (q more : Queue) (s : Slo
 
   pub more_stands : IsInRange e → Stands after more (front ++ (s, e) ∷ back)
   more_stands range =
-      let order = order_parts q.key_first front back p.stands.ordered in
+      let order = order_parts front back p.stands.ordered in
       record {
         linked = linked_append after None front ((s, e) ∷ back) None ties.front_linked (node_stands, ties.back_linked);
         starts = r.first ∙ ap (λ (o : Option Slot). cond (is_some o) q.first (Some s)) is_before_last
             ∙ first_tied front q.first (Some s) (first_of back None) (Some s) (p.stands.starts ∙ first_append front back None) refl ∙ sym (first_append front ((s, e) ∷ back) None);
-        ends = subst (λ (k : Bool). (b : ℕ) → get_or more.ends b None ≡ band_end k b None (front ++ (s, e) ∷ back)) (sym r.key_first)
-            (ends_with put q.key_first q.ends more.ends front s e back (last_of None front) sides.back_linked p.back_behind order.1 r.long p.stands.ends
-            (r.ends ∙ ap (λ (o : Option Slot). cond (has_band put q.key_first (band q.key_first e) o) q.ends (set q.ends (band q.key_first e) (Some s))) is_behind_first));
-        ordered = subst (λ (k : Bool). IsInOrder k (front ++ (s, e) ∷ back)) (sym r.key_first)
-            (order_append q.key_first front ((s, e) ∷ back) order.0 (p.back_behind, order.1) (both front p.front_before order.2));
+        ends = ends_with put q.ends more.ends front s e back (last_of None front) sides.back_linked p.back_behind order.1 r.long p.stands.ends
+            (r.ends ∙ ap (λ (o : Option Slot). cond (has_band put (band e) o) q.ends (set q.ends (band e) (Some s))) is_behind_first);
+        ordered = order_append front ((s, e) ∷ back) order.0 (p.back_behind, order.1) (both front p.front_before order.2);
         in_range = all_append (λ (i : Item). IsInRange i.1) front ((s, e) ∷ back) (all_front (λ (i : Item). IsInRange i.1) front back p.stands.in_range) (range, all_back (λ (i : Item). IsInRange i.1) front back p.stands.in_range);
       }
     where
-      both : (xs : List Item) → AllByRecursion (λ (i : Item). is_before q.key_first i.1 e ≡ true) xs → AllByRecursion (λ (i : Item). AreBehind q.key_first i.1 back) xs → AllByRecursion (λ (i : Item). AreBehind q.key_first i.1 ((s, e) ∷ back)) xs
+      both : (xs : List Item) → AllByRecursion (λ (i : Item). is_before i.1 e ≡ true) xs → AllByRecursion (λ (i : Item). AreBehind i.1 back) xs → AllByRecursion (λ (i : Item). AreBehind i.1 ((s, e) ∷ back)) xs
       both [] h g = tt
       both (x ∷ xs) h g = ((h.0, g.0), both xs h.1 g.1)
 

@@ -7,7 +7,7 @@ use Rattle.slot_pool.specs.declared.pool.Slot.{Slot}
 use Rattle.wait_queue.specs.declared.node.Node.{Node}
 use Rattle.wait_queue.specs.Queues.{Item, IsOutside, first_of, last_of, AreLinked}
 use Rattle.wait_queue.specs.Neighbours.{Relinked, with_behind, with_before, Follows}
-use Rattle.wait_queue.proofs.QueuesLemmas.{AreDistinct, distinct_parts, apart_turned, outside_first, outside_last, linked_same}
+use Rattle.wait_queue.proofs.QueuesLemmas.{AreDistinct, distinct_parts, outside_turned, outside_first, outside_last, linked_same}
 
 -- both parts are distinct, and neither has the slot of the other that lies at the seam
 pub record AreParted (front back : List Item) : Type 0 where
@@ -23,7 +23,7 @@ parted front back d =
       front_distinct = parts.0;
       back_distinct = parts.1;
       not_first = all_more (λ (i : Item). IsOutside i.0 back) (λ (i : Item). first_of back None ≢ Some i.0) (λ i o. outside_first i.0 back o) front parts.2;
-      not_last = all_more (λ (i : Item). IsOutside i.0 front) (λ (i : Item). last_of None front ≢ Some i.0) (λ i o. outside_last i.0 front o) back (apart_turned back front parts.2);
+      not_last = all_more (λ (i : Item). IsOutside i.0 front) (λ (i : Item). last_of None front ≢ Some i.0) (λ i o. outside_last i.0 front o) back (outside_turned back front parts.2);
     }
 
 -- the last of linked items is tied to something else, or the first is

@@ -1,5 +1,5 @@
 -- A queue from which an entry was taken out stands as the list without it.
-use Rattle.std.proofs.Common.{◌≡◌, ◌≢◌, ℕ, ◌<◌, Bool, cond, List, [], ◌∷◌, ◌++◌, length, get_or, set, Option, Some, None, is_some, IsSome, sym, ap, subst, ◌∙◌}
+use Rattle.std.proofs.Common.{◌≡◌, ◌≢◌, ℕ, ◌<◌, cond, List, [], ◌∷◌, ◌++◌, length, set, Option, Some, None, is_some, IsSome, sym, ap, subst, ◌∙◌}
 use Rattle.std.specs.Prelude.{IfSome}
 use Rattle.std.proofs.lemmas.Option.{same_Some}
 use Rattle.fuxi_terms.proofs.Alls.{all_more, all_append, all_front, all_back}
@@ -7,7 +7,7 @@ use Rattle.slot_pool.specs.declared.pool.Slot.{Slot}
 use Rattle.wait_queue.specs.declared.node.Entry.{Entry}
 use Rattle.wait_queue.specs.declared.node.Node.{Node}
 use Rattle.wait_queue.specs.declared.queue.Queue.{Queue}
-use Rattle.wait_queue.specs.Queues.{Item, IsInRange, AreBehind, IsInOrder, IsOutside, first_of, last_of, band, band_end, link, AreLinked, Stands}
+use Rattle.wait_queue.specs.Queues.{Item, IsInRange, AreBehind, IsOutside, first_of, last_of, band, link, AreLinked, Stands}
 use Rattle.wait_queue.specs.Neighbours.{Relinked, with_behind, with_before, has_band}
 use Rattle.wait_queue.proofs.QueuesLemmas.{AreDistinct, order_distinct, order_parts, order_append, linked_parts, linked_append, linked_same, first_append, first_live, last_live, middle_node, middle_outside}
 use Rattle.wait_queue.proofs.NeighboursLemmas.{AreParted, parted, back_stays, AreTied, tied, first_tied}
@@ -31,7 +31,7 @@ beside_item at gone q front s e back h kept =
     let linked = linked_parts at None front ((s, e) ∷ back) None h.linked in
     let outside = middle_outside at q front back s e h in
     record {
-      are_parted = parted front back (without_middle front (s, e) back (order_distinct at q.key_first None (front ++ (s, e) ∷ back) None h.linked h.ordered));
+      are_parted = parted front back (without_middle front (s, e) back (order_distinct at None (front ++ (s, e) ∷ back) None h.linked h.ordered));
       front_linked = linked_same at gone None front (Some s) linked.0 (all_more (λ (i : Item). i.0 ≢ s) (λ (i : Item). gone i.0 ≡ at i.0) (λ i d. kept i.0 d) front (all_front (λ (i : Item). i.0 ≢ s) front back outside));
       back_linked = linked_same at gone (Some s) back None linked.1.1 (all_more (λ (i : Item). i.0 ≢ s) (λ (i : Item). gone i.0 ≡ at i.0) (λ i d. kept i.0 d) back (all_back (λ (i : Item). i.0 ≢ s) front back outside));
     }
@@ -65,8 +65,8 @@ module _ (at gone : Slot → Option Node) (q : Queue) (front : List Item) (s : S
 -- the ends without an entry, over what stands before it and behind it
 abbrev pub ends_after : (Slot → Option Node) → Queue → Entry → Option Slot → Option Slot → List (Option Slot)
 ends_after gone q e before behind =
-    let b : ℕ = band q.key_first e in
-    cond (has_band gone q.key_first b behind) q.ends (set q.ends b (cond (has_band gone q.key_first b before) before None))
+    let b : ℕ = band e in
+    cond (has_band gone b behind) q.ends (set q.ends b (cond (has_band gone b before) before None))
 
 -- A removal as its calls tell it: the node is taken, what stood before it and what stood behind it are tied to one another, and the ends are set.
 pub record Removes (at gone between after : Slot → Option Node) (q left : Queue) (s : Slot) (taken_entry : Entry) (before behind : Option Slot) : Type 0 where
@@ -74,9 +74,8 @@ pub record Removes (at gone between after : Slot → Option Node) (q left : Queu
   pub kept : (t : Slot) → t ≢ s → gone t ≡ at t
   pub one : Relinked gone between before (with_behind behind)
   pub two : Relinked between after behind (with_before before)
-  pub key_first : left.key_first ≡ q.key_first
   pub first : left.first ≡ cond (is_some before) q.first behind
-  pub long : band q.key_first taken_entry < length q.ends
+  pub long : band taken_entry < length q.ends
   pub ends : left.ends ≡ ends_after gone q taken_entry before behind
 
 module _ (at gone between after : Slot → Option Node) (q left : Queue) (s : Slot) (taken_entry : Entry) (before behind : Option Slot) (r : Removes at gone between after q left s taken_entry before behind)
@@ -92,16 +91,15 @@ module _ (at gone between after : Slot → Option Node) (q left : Queue) (s : Sl
 
   pub left_stands : taken_entry ≡ e → Stands after left (front ++ back)
   left_stands same =
-      let order = order_parts q.key_first front ((s, e) ∷ back) h.ordered in
+      let order = order_parts front ((s, e) ∷ back) h.ordered in
       record {
         linked = linked_append after None front back None ties.front_linked ties.back_linked;
         starts = r.first ∙ ap (λ (o : Option Slot). cond (is_some o) q.first behind) is_before
             ∙ first_tied front q.first behind (Some s) (first_of back None) (h.starts ∙ first_append front ((s, e) ∷ back) None) is_behind ∙ sym (first_append front back None);
-        ends = subst (λ (k : Bool). (b : ℕ) → get_or left.ends b None ≡ band_end k b None (front ++ back)) (sym r.key_first)
-            (ends_without gone q.key_first q.ends left.ends front s e back (Some s) sides.back_linked order.1.0 order.1.1 (subst (λ (a : Entry). band q.key_first a < length q.ends) same r.long)
-            (cond (has_band gone q.key_first (band q.key_first e) (last_of None front)) (last_of None front) None) (before_tells gone q.key_first s e (Some s) front back sides.front_linked order.0 order.2) h.ends
-            (r.ends ∙ ap (λ (a : Entry). ends_after gone q a before behind) same ∙ ap (λ (o : Option Slot). ends_after gone q e o behind) is_before ∙ ap (λ (o : Option Slot). ends_after gone q e (last_of None front) o) is_behind));
-        ordered = subst (λ (k : Bool). IsInOrder k (front ++ back)) (sym r.key_first) (order_append q.key_first front back order.0 order.1.1 (all_more (λ (i : Item). AreBehind q.key_first i.1 ((s, e) ∷ back)) (λ (i : Item). AreBehind q.key_first i.1 back) (λ i p. p.1) front order.2));
+        ends = ends_without gone q.ends left.ends front s e back (Some s) sides.back_linked order.1.0 order.1.1 (subst (λ (a : Entry). band a < length q.ends) same r.long)
+            (cond (has_band gone (band e) (last_of None front)) (last_of None front) None) (before_tells gone s e (Some s) front back sides.front_linked order.0 order.2) h.ends
+            (r.ends ∙ ap (λ (a : Entry). ends_after gone q a before behind) same ∙ ap (λ (o : Option Slot). ends_after gone q e o behind) is_before ∙ ap (λ (o : Option Slot). ends_after gone q e (last_of None front) o) is_behind);
+        ordered = order_append front back order.0 order.1.1 (all_more (λ (i : Item). AreBehind i.1 ((s, e) ∷ back)) (λ (i : Item). AreBehind i.1 back) (λ i p. p.1) front order.2);
         in_range = all_append (λ (i : Item). IsInRange i.1) front back (all_front (λ (i : Item). IsInRange i.1) front ((s, e) ∷ back) h.in_range) (all_back (λ (i : Item). IsInRange i.1) front ((s, e) ∷ back) h.in_range).1;
       }
 

@@ -23,13 +23,13 @@ Follows at None first next = first ≡ next
 Follows at (Some s) first next = (n : Node) → at s ≡ Some n → n.behind ≡ link next
 
 -- whether an entry of the band stands at the slot, where there is one
-abbrev pub is_in : Bool → ℕ → Option Entry → Bool
-is_in key_first b None = false
-is_in key_first b (Some e) = nat_eq (band key_first e) b
+abbrev pub is_in : ℕ → Option Entry → Bool
+is_in b None = false
+is_in b (Some e) = nat_eq (band e) b
 
-abbrev pub has_band : (Slot → Option Node) → Bool → ℕ → Option Slot → Bool
-has_band at key_first b None = false
-has_band at key_first b (Some s) = is_in key_first b (entry_at at s)
+abbrev pub has_band : (Slot → Option Node) → ℕ → Option Slot → Bool
+has_band at b None = false
+has_band at b (Some s) = is_in b (entry_at at s)
 
 -- the first slot that there is
 abbrev pub nearest : List (Option Slot) → Option Slot
@@ -38,17 +38,17 @@ nearest (None ∷ rest) = nearest rest
 nearest (Some s ∷ rest) = Some s
 
 -- A walk back from a slot: the nodes up to there are linked and in order, the front ones stand before the entry and the middle ones behind it.
-pub record Walks (at : Slot → Option Node) (start : Option Slot) (key_first : Bool) (e : Entry) (front middle : List Item) (next : Option Slot) : Type 0 where
+pub record Walks (at : Slot → Option Node) (start : Option Slot) (e : Entry) (front middle : List Item) (next : Option Slot) : Type 0 where
   pub linked : AreLinked at None (front ++ middle) next
   pub starts : start ≡ last_of None (front ++ middle)
-  pub ordered : IsInOrder key_first (front ++ middle)
+  pub ordered : IsInOrder (front ++ middle)
   pub in_range : AllByRecursion (λ (i : Item). IsInRange i.1) (front ++ middle)
-  pub front_before : AreBefore key_first e front
-  pub middle_behind : AreBehind key_first e middle
+  pub front_before : AreBefore e front
+  pub middle_behind : AreBehind e middle
 
 -- there is something to walk
-pub record CanWalk (at : Slot → Option Node) (start : Option Slot) (key_first : Bool) (e : Entry) : Type 0 where
+pub record CanWalk (at : Slot → Option Node) (start : Option Slot) (e : Entry) : Type 0 where
   pub front : List Item
   pub middle : List Item
   pub next : Option Slot
-  pub walks : Walks at start key_first e front middle next
+  pub walks : Walks at start e front middle next

@@ -41,25 +41,21 @@ impl Node {
     }
 }
 
-/// Whether the one entry stands before the other: by greater priority where that comes first, then by
-/// smaller turn.
-fn stands_before(key_first: bool, one: &Entry, other: &Entry) -> bool
-    ensures { result ≡ is_before key_first one.now other.now }
+/// Whether the one entry stands before the other: by greater priority, then by smaller turn.
+fn stands_before(one: &Entry, other: &Entry) -> bool
+    ensures { result ≡ is_before one.now other.now }
 {
-    if key_first && one.priority != other.priority {
+    if one.priority != other.priority {
         return one.priority > other.priority;
     }
     one.turn < other.turn
 }
 
-/// The band of an entry: its priority, and one band for all from 9 on; a single band where only turns count.
-pub(crate) fn band_of(key_first: bool, entry: &Entry) -> usize
-    ensures band { result ≡ band key_first entry.now }
+/// The band of an entry: its priority, and one band for all from 9 on.
+pub(crate) fn band_of(entry: &Entry) -> usize
+    ensures band { result ≡ band entry.now }
     ensures inside { result < 10 }
 {
-    if !key_first {
-        return 0;
-    }
     entry.priority.min(9) as usize
 }
 
@@ -145,19 +141,14 @@ pub(crate) fn tie_before(pool: &mut Pool<Node>, slot: Option<Slot>, before: Opti
 }
 
 /// The last slot before the place of the entry, walking back from a slot.
-pub(crate) fn place_of(
-    pool: &Pool<Node>,
-    start: Option<Slot>,
-    key_first: bool,
-    entry: &Entry,
-) -> Option<Slot>
-    requires { CanWalk (value_at pool.now) start key_first entry.now }
-    ensures { (front middle : List Item) (next : Option SlotRecord) → Walks (value_at pool.now) start key_first entry.now front middle next → result ≡ last_of None front }
+pub(crate) fn place_of(pool: &Pool<Node>, start: Option<Slot>, entry: &Entry) -> Option<Slot>
+    requires { CanWalk (value_at pool.now) start entry.now }
+    ensures { (front middle : List Item) (next : Option SlotRecord) → Walks (value_at pool.now) start entry.now front middle next → result ≡ last_of None front }
 {
     let mut place = start;
     while let Some(slot) = place {
         let node = pool.get(slot);
-        if stands_before(key_first, &node.entry, entry) {
+        if stands_before(&node.entry, entry) {
             return place;
         }
         place = slot_of(pool, node.before);
@@ -166,12 +157,12 @@ pub(crate) fn place_of(
 }
 
 /// Whether an entry of the band stands at the slot, where there is one.
-pub(crate) fn has_band(pool: &Pool<Node>, key_first: bool, slot: Option<Slot>, band: usize) -> bool
+pub(crate) fn has_band(pool: &Pool<Node>, slot: Option<Slot>, band: usize) -> bool
     requires { IfSome slot (λ s. IsSome (value_at pool.now s)) }
-    ensures { result ≡ has_band (value_at pool.now) key_first band slot }
+    ensures { result ≡ has_band (value_at pool.now) band slot }
 {
     match slot {
-        Some(slot) => band_of(key_first, &pool.get(slot).entry) == band,
+        Some(slot) => band_of(&pool.get(slot).entry) == band,
         None => false,
     }
 }
@@ -180,31 +171,25 @@ pub(crate) fn has_band(pool: &Pool<Node>, key_first: bool, slot: Option<Slot>, b
 pub(crate) fn set_end(
     pool: &Pool<Node>,
     ends: &mut [Option<Slot>; BANDS],
-    key_first: bool,
     band: usize,
     end: Option<Slot>,
     behind: Option<Slot>,
 )
     requires inside { band < 10 }
     requires live { IfSome behind (λ s. IsSome (value_at pool.now s)) }
-    ensures { ends.new ≡ cond (has_band (value_at pool.now) key_first band behind) ends.old (set ends.old band end) }
+    ensures { ends.new ≡ cond (has_band (value_at pool.now) band behind) ends.old (set ends.old band end) }
 {
-    if !has_band(pool, key_first, behind, band) {
+    if !has_band(pool, behind, band) {
         ends[band] = end;
     }
 }
 
 /// The slot before the place of an entry that was taken, where it becomes the end of the entry's band.
-pub(crate) fn end_before(
-    pool: &Pool<Node>,
-    key_first: bool,
-    band: usize,
-    before: Option<Slot>,
-) -> Option<Slot>
+pub(crate) fn end_before(pool: &Pool<Node>, band: usize, before: Option<Slot>) -> Option<Slot>
     requires { IfSome before (λ s. IsSome (value_at pool.now s)) }
-    ensures { result ≡ cond (has_band (value_at pool.now) key_first band before) before None }
+    ensures { result ≡ cond (has_band (value_at pool.now) band before) before None }
 {
-    if has_band(pool, key_first, before, band) {
+    if has_band(pool, before, band) {
         return before;
     }
     None

@@ -17,5 +17,5 @@ returns c =
     let has = c.places.ensures _ _ _ may in
     let same : unit ≡ unit_in units n = listed_unit units n unit c.requires.begins.inside (subst (λ (k : ℕ). unit ≡ get_or units k unit) c.number_of.ensures c.index_mut-unit.ensures.value) in
     enters p c.requires.laid c.standing_lists.ensures.entries c.standing_lists.ensures.one c.args.entry.now c.requires.begins c.requires.outside c.insert-slot.result c.insert-slot.new.pool c.insert-slot.new.self _ has
-    (c.insert-slot.ensures.placed has.front has.back has.is_place) c.insert-slot.ensures.order c.insert-slot.ensures.spare
+    (c.insert-slot.ensures.placed has.front has.back has.is_place) c.insert-slot.ensures.spare
     (ap (λ (k : ℕ). set units k (record unit { slot = Some c.insert-slot.result })) c.number_of.ensures ∙ ap (λ (v : UnitPlaces). set units n (record v { slot = Some c.insert-slot.result })) same)

@@ -26,7 +26,7 @@ returns-in-Some c =
     leaves_some p c.requires.laid n c.requires.unit c.new-unit.result c.new-unit.ensures _ c.uncount.new.counts c.uncount.ensures.len
     (λ k h. c.uncount.ensures.less k h ∙ ap (λ (u : UnitPlaces). get_or p.counts.items k 0 - cond (in_set u.places k) 1 0) same)
     (ap (λ (k : ℕ). set units k (record { slot = None; admitted = unit.admitted; places = c.new-unit.result })) c.number_of.ensures ∙ ap (λ (u : UnitPlaces). set units n (record { slot = None; admitted = u.admitted; places = c.new-unit.result })) same)
-    c.standing_lists.ensures.entries c.standing_lists.ensures.distinct c.in-Some.slot noted q.0 q.1 c.remove.new.pool c.remove.new.self (c.remove.ensures.removed q.0.front q.0.back q.0.entry q.0.stands) c.remove.ensures.order c.remove.ensures.spare
+    c.standing_lists.ensures.entries c.standing_lists.ensures.distinct c.in-Some.slot noted q.0 q.1 c.remove.new.pool c.remove.new.self (c.remove.ensures.removed q.0.front q.0.back q.0.entry q.0.stands) c.remove.ensures.spare
 
 pub returns-in_default : goal.returns-in_default
 returns-in_default c =

@@ -11,4 +11,4 @@ returns-clause-laid c =
     let same = c.in_ok-from_elem.ensures.items_if_clones_equal (λ y e. search rules) in
     subst (λ (units : List UnitPlaces). AreLaidOut (value_at pool) pool.spare c.new.result units c.in_ok-from_elem.field-0.items) (sym c.new-2.ensures.items)
     (subst (λ (counts : List ℕ). AreLaidOut (value_at pool) pool.spare c.new.result [] counts) (sym same)
-    (laid_empty (value_at pool) pool.spare c.new.result c.args.places (c.new.ensures.stands (value_at pool)) c.new.ensures.order c.requires))
+    (laid_empty (value_at pool) pool.spare c.new.result c.args.places (c.new.ensures (value_at pool)) c.requires))

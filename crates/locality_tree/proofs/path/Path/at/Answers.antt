@@ -29,7 +29,7 @@ returns c = λ laid pairs ranking.
     let none = level_none l.units.items c.args.near_place c.args.rack_place (nat_lt 0 c.index.result.now) (nat_lt 0 c.index-2.result.now)
     (λ e. count_none l laid c.args.near_place near (zero_of c.index.result.now (get_or l.counts.items c.args.near_place 0) near_count e))
     (λ e. count_none l laid c.args.rack_place rack (zero_of c.index-2.result.now (get_or l.counts.items c.args.rack_place 0) rack_count e)) in
-    starts _ pairs laid.items laid.queued.stands laid.queued.by_priority laid.queued.numbers first first
+    starts _ pairs laid.items laid.queued.stands laid.queued.numbers first first
     (heads_at c.standing_lists.ensures.entries (value_at l.pool) l.queue laid.items laid.queued.stands c.priority_at.result (λ s e h g. c.priority_at.ensures s e (first ∙ h) g))
     (omega (arith, near, narrow)) (omega (arith, rack, narrow)) c.level_from.ensures.most (λ k _ h. c.level_from.ensures.none k (omega arith) h)
     (subst (λ (us : List UnitPlaces). (k : ℕ) → has_level (nat_lt 0 c.index.result.now) (nat_lt 0 c.index-2.result.now) k ≡ false → (e : Entry) → level_in us c.args.near_place c.args.rack_place e ≢ k) (sym c.deref.ensures.value) none)

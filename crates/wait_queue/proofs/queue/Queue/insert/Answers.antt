@@ -1,10 +1,10 @@
-use Rattle.std.proofs.Common.{◌≡◌, ◌≢◌, ◌++◌, ℕ, List, Option, None, Some, cond, set, refl, ap, subst, ◌∙◌, arith}
+use Rattle.std.proofs.Common.{◌≡◌, ◌++◌, ℕ, List, Option, None, Some, cond, set, ap, subst, ◌∙◌, arith}
 use Rattle.slot_pool.specs.declared.pool.Slot.{Slot}
 use Rattle.slot_pool.specs.Pools.{value_at}
 use Rattle.wait_queue.specs.declared.node.Node.{Node}
-use Rattle.wait_queue.specs.Queues.{Item, IsOutside, IsPlace, Stands, first_of, last_of, link}
+use Rattle.wait_queue.specs.Queues.{Item, IsOutside, IsPlace, first_of, last_of, link}
 use Rattle.wait_queue.specs.Neighbours.{with_behind, has_band}
-use Rattle.wait_queue.proofs.QueuesLemmas.{has_place, pool_one, same_stands, stands_same, all_both, outside_absent}
+use Rattle.wait_queue.proofs.QueuesLemmas.{has_place, pool_one, same_stands}
 use Rattle.wait_queue.proofs.BandEndsLemmas.{walk_to_place, place_found}
 use Rattle.wait_queue.proofs.InsertionStands.{before_live, behind_is, before_tied, behind_put, behind_tied, Inserts, more_stands, others_stay}
 use Rattle.wait_queue.proofs.queue.Queue.insert.Goals as goal
@@ -41,7 +41,7 @@ tie_before-requires c =
 
 -- the insertion as its calls tell it, and what stands before and behind a place
 inserts : (c : goal.After-tie_before) → Inserts (value_at c.args.pool.now) (value_at c.put-slot.new.self) (value_at c.tie_behind.new.pool) (value_at c.tie_before.new.pool) c.args.self.now
-    (record { key_first = c.args.self.now.key_first; first = c.tie_behind.new.first; ends = c.set_end.new.ends }) c.put-slot.result c.args.entry c.place_of-before.result c.behind_of-behind.result
+    (record { first = c.tie_behind.new.first; ends = c.set_end.new.ends }) c.put-slot.result c.args.entry c.place_of-before.result c.behind_of-behind.result
 inserts c =
     let node : Option ℕ → Option ℕ → Node = λ x y. record { entry = c.args.entry; before = x; behind = y } in
     let slots : List (Option Slot) = c.args.self.now.ends in
@@ -51,10 +51,9 @@ inserts c =
       kept = c.put-slot.ensures.others;
       one = c.tie_behind.ensures.tied;
       two = c.tie_before.ensures.tied;
-      key_first = refl;
       first = c.tie_behind.ensures.first;
       long = let is = c.band_of-band.ensures.band in let inside = c.band_of-band.ensures.inside in omega (arith, is, inside);
-      ends = c.set_end.ensures ∙ ap (λ (b : ℕ). cond (has_band (value_at c.put-slot.new.self) c.args.self.now.key_first b c.behind_of-behind.result) slots (set slots b (Some c.put-slot.result))) c.band_of-band.ensures.band;
+      ends = c.set_end.ensures ∙ ap (λ (b : ℕ). cond (has_band (value_at c.put-slot.new.self) b c.behind_of-behind.result) slots (set slots b (Some c.put-slot.result))) c.band_of-band.ensures.band;
     }
 
 before : (c : goal.After-tie_before) (front back : List Item) → IsPlace (value_at c.args.pool.now) c.args.self.now c.args.entry front back → c.place_of-before.result ≡ last_of None front
@@ -63,20 +62,11 @@ before c front back p = place_found _ _ _ front back c.band_of-band.result c.nea
 behind : (c : goal.After-tie_before) (front back : List Item) → IsPlace (value_at c.args.pool.now) c.args.self.now c.args.entry front back → c.behind_of-behind.result ≡ first_of back None
 behind c front back p = behind_is _ _ _ front back p c.place_of-before.result c.behind_of-behind.result (before c front back p) c.behind_of-behind.ensures
 
--- no slot changes but those of a list as which the queue stood, and the new one
-stays : (c : goal.After-tie_before) (items : List Item) → Stands (value_at c.args.pool.now) c.args.self.now items → (slot : Slot) → IsOutside slot items → slot ≢ c.put-slot.result → value_at c.tie_before.new.pool slot ≡ value_at c.args.pool.now slot
-stays c items stands slot outside other =
-    let p = has_place _ _ _ c.requires.enters in
-    let same : items ≡ p.front ++ p.back = same_stands (value_at c.args.pool.now) (pool_one c.args.pool.now) c.args.self.now items _ stands p.is_place.stands in
-    others_stay _ _ _ _ _ _ _ _ _ _ (inserts c) p.front p.back p.is_place (before c p.front p.back p.is_place) (behind c p.front p.back p.is_place) slot (subst (λ (l : List Item). IsOutside slot l) same outside) other
-
 pub returns-clause-placed : goal.returns-clause-placed
 returns-clause-placed c = λ front back p. more_stands _ _ _ _ _ _ _ _ _ _ (inserts c) front back p (before c front back p) (behind c front back p) c.check_range.ensures
 
 pub returns-clause-rest : goal.returns-clause-rest
-returns-clause-rest c = stays c
-
-pub returns-clause-others : goal.returns-clause-others
-returns-clause-others c = λ items theirs other stands theirs_stand apart.
-    stands_same _ _ other theirs theirs_stand (all_both (λ (i : Item). IsOutside i.0 items) (λ (i : Item). i.0 ≢ c.put-slot.result) (λ (i : Item). value_at c.tie_before.new.pool i.0 ≡ value_at c.args.pool.now i.0)
-    (λ i outside differs. stays c items stands i.0 outside differs) theirs apart (outside_absent _ None theirs None c.put-slot.result theirs_stand.linked c.put-slot.ensures.absent))
+returns-clause-rest c = λ items stands slot outside other.
+    let p = has_place _ _ _ c.requires.enters in
+    let same : items ≡ p.front ++ p.back = same_stands (value_at c.args.pool.now) (pool_one c.args.pool.now) c.args.self.now items _ stands p.is_place.stands in
+    others_stay _ _ _ _ _ _ _ _ _ _ (inserts c) p.front p.back p.is_place (before c p.front p.back p.is_place) (behind c p.front p.back p.is_place) slot (subst (λ (l : List Item). IsOutside slot l) same outside) other

@@ -1,12 +1,11 @@
-use Rattle.std.proofs.Common.{◌≡◌, ◌∷◌, ◌++◌, ◌∙◌, ℕ, Bool, List, Option, None, is_some, cond, set, refl, ap, subst, arith}
-use Rattle.fuxi_terms.proofs.Alls.{all_more}
+use Rattle.std.proofs.Common.{◌≡◌, ◌∷◌, ◌++◌, ◌∙◌, ℕ, List, Option, None, is_some, cond, set, ap, subst, arith}
 use Rattle.slot_pool.specs.declared.pool.Slot.{Slot}
 use Rattle.slot_pool.specs.Pools.{value_at}
 use Rattle.wait_queue.specs.declared.node.Entry.{Entry}
 use Rattle.wait_queue.specs.declared.node.Node.{Node}
 use Rattle.wait_queue.specs.Queues.{Item, Stands, IsOutside, first_of, last_of, band}
 use Rattle.wait_queue.specs.Neighbours.{with_behind, has_band}
-use Rattle.wait_queue.proofs.QueuesLemmas.{middle_node, pool_one, same_stands, stands_same}
+use Rattle.wait_queue.proofs.QueuesLemmas.{middle_node, pool_one, same_stands}
 use Rattle.wait_queue.proofs.RemovalStands.{before_is, behind_is, before_live, behind_kept, behind_live, entry_is, Removes, left_stands, others_stay, slot_gone}
 use Rattle.wait_queue.proofs.queue.Queue.remove.Goals as goal
 
@@ -38,23 +37,21 @@ tie_before-requires c =
     c.tie_behind.ensures.tied
 
 -- the removal as its calls tell it, and what stands before and behind the item
-removes : (c : goal.After-tie_before) → Removes (value_at c.args.pool.now) (value_at c.take-before.new.self) (value_at c.tie_behind.new.pool) (value_at c.tie_before.new.pool) c.args.self.now (record { key_first = c.args.self.now.key_first; first = c.tie_behind.new.first; ends = c.set_end.new.ends }) c.args.slot c.take-before.result.entry c.slot_of-before.result c.slot_of-behind.result
+removes : (c : goal.After-tie_before) → Removes (value_at c.args.pool.now) (value_at c.take-before.new.self) (value_at c.tie_behind.new.pool) (value_at c.tie_before.new.pool) c.args.self.now (record { first = c.tie_behind.new.first; ends = c.set_end.new.ends }) c.args.slot c.take-before.result.entry c.slot_of-before.result c.slot_of-behind.result
 removes c =
     let slots : List (Option Slot) = c.args.self.now.ends in
     let gone : Slot → Option Node = value_at c.take-before.new.self in
-    let k : Bool = c.args.self.now.key_first in
-    let b : ℕ = band k c.take-before.result.entry in
+    let b : ℕ = band c.take-before.result.entry in
     let is = c.band_of-band.ensures.band in
-    let ends_at : ℕ → Option Slot → List (Option Slot) = λ n o. cond (has_band gone k n c.slot_of-behind.result) slots (set slots n o) in
+    let ends_at : ℕ → Option Slot → List (Option Slot) = λ n o. cond (has_band gone n c.slot_of-behind.result) slots (set slots n o) in
     record {
       taken = c.take-before.ensures.gone;
       kept = c.take-before.ensures.others;
       one = c.tie_behind.ensures.tied;
       two = c.tie_before.ensures.tied;
-      key_first = refl;
       first = c.tie_behind.ensures.first;
       long = let inside = c.band_of-band.ensures.inside in omega (arith, is, inside);
-      ends = c.set_end.ensures ∙ ap (ends_at c.band_of-band.result) c.end_before-end.ensures ∙ ap (λ (n : ℕ). ends_at n (cond (has_band gone k n c.slot_of-before.result) c.slot_of-before.result None)) is;
+      ends = c.set_end.ensures ∙ ap (ends_at c.band_of-band.result) c.end_before-end.ensures ∙ ap (λ (n : ℕ). ends_at n (cond (has_band gone n c.slot_of-before.result) c.slot_of-before.result None)) is;
     }
 
 before : (c : goal.After-tie_before) (front back : List Item) (e : Entry) → Stands (value_at c.args.pool.now) c.args.self.now (front ++ (c.args.slot, e) ∷ back) → c.slot_of-before.result ≡ last_of None front
@@ -62,13 +59,6 @@ before c front back e h = before_is (value_at c.args.pool.now) (value_at c.take-
 
 behind : (c : goal.After-tie_before) (front back : List Item) (e : Entry) → Stands (value_at c.args.pool.now) c.args.self.now (front ++ (c.args.slot, e) ∷ back) → c.slot_of-behind.result ≡ first_of back None
 behind c front back e h = behind_is (value_at c.args.pool.now) (value_at c.take-before.new.self) c.args.self.now front c.args.slot e back c.take-before.result h c.take-before.ensures.value c.take-before.ensures.others c.slot_of-behind.result c.slot_of-behind.ensures
-
--- no slot changes but those of a list as which the queue stood
-stays : (c : goal.After-tie_before) (items : List Item) → Stands (value_at c.args.pool.now) c.args.self.now items → (other : Slot) → IsOutside other items → value_at c.tie_before.new.pool other ≡ value_at c.args.pool.now other
-stays c items stands other outside =
-    let h = c.requires in
-    let same : items ≡ h.front ++ (c.args.slot, h.entry) ∷ h.back = same_stands (value_at c.args.pool.now) (pool_one c.args.pool.now) c.args.self.now items _ stands h.stands in
-    others_stay _ _ _ _ _ _ _ _ _ _ (removes c) h.front h.entry h.back h.stands (before c h.front h.back h.entry h.stands) (behind c h.front h.back h.entry h.stands) other (subst (λ (l : List Item). IsOutside other l) same outside)
 
 pub returns-clause-removed : goal.returns-clause-removed
 returns-clause-removed c = λ front back entry h. left_stands _ _ _ _ _ _ _ _ _ _ (removes c) front entry back h (before c front back entry h) (behind c front back entry h)
@@ -78,11 +68,10 @@ pub returns-clause-entry : goal.returns-clause-entry
 returns-clause-entry c = λ front back entry h. entry_is (value_at c.args.pool.now) (value_at c.take-before.new.self) c.args.self.now front c.args.slot entry back c.take-before.result h c.take-before.ensures.value c.take-before.ensures.others
 
 pub returns-clause-rest : goal.returns-clause-rest
-returns-clause-rest c = stays c
-
-pub returns-clause-others : goal.returns-clause-others
-returns-clause-others c = λ items theirs other stands theirs_stand apart.
-    stands_same _ _ other theirs theirs_stand (all_more (λ (i : Item). IsOutside i.0 items) (λ (i : Item). value_at c.tie_before.new.pool i.0 ≡ value_at c.args.pool.now i.0) (λ i outside. stays c items stands i.0 outside) theirs apart)
+returns-clause-rest c = λ items stands other outside.
+    let h = c.requires in
+    let same : items ≡ h.front ++ (c.args.slot, h.entry) ∷ h.back = same_stands (value_at c.args.pool.now) (pool_one c.args.pool.now) c.args.self.now items _ stands h.stands in
+    others_stay _ _ _ _ _ _ _ _ _ _ (removes c) h.front h.entry h.back h.stands (before c h.front h.back h.entry h.stands) (behind c h.front h.back h.entry h.stands) other (subst (λ (l : List Item). IsOutside other l) same outside)
 
 pub returns-clause-gone : goal.returns-clause-gone
 returns-clause-gone c =
