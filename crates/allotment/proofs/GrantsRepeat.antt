@@ -3,17 +3,17 @@ use Rattle.std.proofs.Common.{◌≡◌, ℕ, ◌+◌, ◌-◌, ◌<◌, ◌≤�
 use Rattle.std.specs.Prelude.{◌&&◌}
 use Rattle.std.specs.Cmp.{tied_itself}
 use Rattle.std.specs.FinMap.Entries.{is_sorted}
-use Rattle.std.specs.Ordering.{eq_by_cmp, is_eq}
+use Rattle.std.specs.Ordering.{is_eq}
 use Rattle.std.proofs.lemmas.Bool.Decides.{nat_tests}
 use Rattle.fuxi_terms.specs.Cluster.{ClusterRecord}
-use Rattle.fuxi_terms.specs.Counts.{count, set_count, AreCounts}
+use Rattle.fuxi_terms.specs.Counts.{count, set_count}
 use Rattle.fuxi_terms.specs.Jobs.{unit_count}
 use Rattle.fuxi_terms.specs.Keys.{Spot, spot_cmp, Pair}
 use Rattle.fuxi_terms.specs.Limits.{greatest_count}
 use Rattle.fuxi_terms.specs.TallyKeys.{want_key}
 use Rattle.fuxi_terms.specs.Tables.{held, with_grant, Table}
 use Rattle.fuxi_terms.proofs.Booleans.{both_true, number_is}
-use Rattle.fuxi_terms.proofs.CountsLemmas.{count-set_count, counts-set_count, same_counts}
+use Rattle.fuxi_terms.proofs.CountsLemmas.{count-set_count, set_twice}
 use Rattle.fuxi_terms.proofs.KeyOrders.{spot_total, same_spot}
 use Rattle.written_roles.specs.Masters.{Master, level_of, out_of}
 use Rattle.written_roles.specs.Placing.{Board, accepts_in, first_in, has_room_in, is_allowed_in, may_grow_in, placeable_in}
@@ -28,18 +28,6 @@ abbrev pub StaysFirst : Type 0
 StaysFirst = (b : Board) (es : Table) (line : List Pair) (x : Spot) (n : ℕ) → T (is_sorted spot_cmp es) → count spot_cmp es x ≤ n → first_in b es line ≡ Some x
     → placeable_in b (set_count spot_cmp es x n) x.job x.unit x.machine ≡ true → level_of b.cluster b.asks (set_count spot_cmp es x n) x.job x.unit x.machine ≡ level_of b.cluster b.asks es x.job x.unit x.machine
     → first_in b (set_count spot_cmp es x n) line ≡ Some x
-
--- a number that is set twice
-set_twice : (es : Table) (x : Spot) (n k : ℕ) → AreCounts spot_cmp (λ s. greatest_count) es → n ≤ greatest_count → k ≤ greatest_count → set_count spot_cmp (set_count spot_cmp es x n) x k ≡ set_count spot_cmp es x k
-set_twice es x n k h few more =
-    let once = counts-set_count spot_total (λ s. greatest_count) same_spot es x n few h in
-    same_counts spot_total same_spot (λ s. greatest_count) (set_count spot_cmp (set_count spot_cmp es x n) x k) (set_count spot_cmp es x k)
-    (counts-set_count spot_total (λ s. greatest_count) same_spot (set_count spot_cmp es x n) x k more once) (counts-set_count spot_total (λ s. greatest_count) same_spot es x k more h)
-    (λ q. count-set_count spot_total (set_count spot_cmp es x n) x k q ∙ ap (cond (eq_by_cmp spot_cmp q x) k) (count-set_count spot_total es x n q) ∙ later (eq_by_cmp spot_cmp q x) (count spot_cmp es q) ∙ sym (count-set_count spot_total es x k q))
-  where
-    later : (b : Bool) (c : ℕ) → cond b k (cond b n c) ≡ cond b k c
-    later true c = refl
-    later false c = refl
 
 pub count_here : (es : Table) (x : Spot) (n : ℕ) → count spot_cmp (set_count spot_cmp es x n) x ≡ n
 count_here es x n = count-set_count spot_total es x n x ∙ ap (λ b. cond b n (count spot_cmp es x)) (ap is_eq (tied_itself spot_total x))
@@ -101,7 +89,7 @@ module _ (law : SetsHeld) (t : TableRecord) (s : SeenRecord) (x : Spot) (sound :
       let now = subst (λ z. all_out (at n) z < all_out t s) line_same fewer in
       record {
         number = n + 1;
-        is = ap (λ es. record t { entries = es }) (ap (λ k. set_count spot_cmp (set_count spot_cmp t.entries x n) x (k + 1)) (count_here t.entries x n) ∙ set_twice t.entries x n (n + 1) sound.counts (omega (arith, few)) (omega (arith, few)));
+        is = ap (λ es. record t { entries = es }) (ap (λ k. set_count spot_cmp (set_count spot_cmp t.entries x n) x (k + 1)) (count_here t.entries x n) ∙ set_twice spot_total same_spot (λ s. greatest_count) t.entries x n (n + 1) sound.counts (omega (arith, few)) (omega (arith, few)));
         rises = omega (arith, rises);
         settles = λ c M k. settles_on (at n) (more n) s (told_grant s (more n) x) c M x first_n (λ N p. granted_is law (at n) s x sound_n.counts.sorted c N up_n p) (subst (λ z. IsSettling (at n) z c M) line_same (settles c M k));
         fewer = omega (arith, next, now);

@@ -1,5 +1,5 @@
 -- Nothing is granted, asked or open at first.
-use Rattle.std.proofs.Common.{◌≡◌, ℕ, zero, suc, false, not, List, [], length, get_or, refl, sym, ◌∙◌, ap}
+use Rattle.std.proofs.Common.{◌≡◌, ℕ, false, not, List, [], length, get_or, refl, sym, ◌∙◌, ap}
 use Rattle.std.specs.Prelude.{◌&&◌, replicate}
 use Rattle.fuxi_terms.specs.Cluster.{ClusterRecord}
 use Rattle.fuxi_terms.specs.declared.Key.{Key}

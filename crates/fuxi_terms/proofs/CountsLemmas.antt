@@ -146,6 +146,17 @@ module _ {K : Type 0} {R : K → K → Ordering} (o : IsTotalOrder R) where
     pub same_counts : (es fs : List (K × ℕ)) → AreCounts R greatest es → AreCounts R greatest fs → ((q : K) → count R es q ≡ count R fs q) → es ≡ fs
     same_counts es fs g h is = same_entries R o same es fs g.sorted h.sorted (λ q. found R es q g.positive ∙ ap (λ n. cond (nat_eq n 0) None (Some n)) (is q) ∙ sym (found R fs q h.positive))
 
+    -- of a number that is set twice the second stays
+    pub set_twice : (es : List (K × ℕ)) (k : K) (n m : ℕ) → AreCounts R greatest es → n ≤ greatest k → m ≤ greatest k → set_count R (set_count R es k n) k m ≡ set_count R es k m
+    set_twice es k n m h few more =
+        let once = counts-set_count greatest same es k n few h in
+        same_counts (set_count R (set_count R es k n) k m) (set_count R es k m) (counts-set_count greatest same (set_count R es k n) k m more once) (counts-set_count greatest same es k m more h)
+        (λ q. count-set_count (set_count R es k n) k m q ∙ ap (cond (eq_by_cmp R q k) m) (count-set_count es k n q) ∙ later (eq_by_cmp R q k) (count R es q) ∙ sym (count-set_count es k m q))
+      where
+        later : (b : Bool) (c : ℕ) → cond b m (cond b n c) ≡ cond b m c
+        later true c = refl
+        later false c = refl
+
     module _ {E : Type 0} (low : K → ℕ → ℤ → E) (high : K → E) (old new : List (K × ℕ)) (new_is : AreCounts R greatest new) where
       record Reaches (es js : List (K × ℕ)) : Type 0 where
         end : List (K × ℕ)

@@ -3,7 +3,7 @@ use Rattle.std.proofs.Common.{◌≡◌, ◌≢◌, ℕ, zero, suc, ◌+◌, ◌
 use Rattle.std.proofs.lemmas.Bool.{cases_eq, cases_lt}
 use Rattle.std.specs.Global.{Vec}
 use Rattle.std.specs.Option.{is_none}
-use Rattle.std.proofs.lemmas.List.{get_or-set_same, get_or-set_other, get_or_past, set-get_or, length-set}
+use Rattle.std.proofs.lemmas.List.{get_or-set_same, get_or-set_other, get_or_past, set-get_or, set-set, length-set}
 use Rattle.std.proofs.lemmas.List.Sums.{sum_by-set, count_by-le-length}
 use Rattle.fuxi_terms.proofs.Booleans.{not_both}
 use Rattle.fuxi_terms.proofs.Members.{In}
@@ -415,15 +415,10 @@ module _ (p : Layout) (laid : IsLaidOut p) where
       (record { front = part.front; entry = a.0; back = part.back; stands = subst (λ (l : List Item). Stands at_of p.queue l) part.is laid.queued.stands }, part.is)
 
 -- one change of a unit behind another
-set_twice : (us : List UnitPlaces) (n : ℕ) (a b : UnitPlaces) → set (set us n a) n b ≡ set us n b
-set_twice [] n a b = refl
-set_twice (u ∷ us) zero a b = refl
-set_twice (u ∷ us) (suc n) a b = ap (λ (vs : List UnitPlaces). u ∷ vs) (set_twice us n a b)
-
 pub changes_on : (p one two : Layout) (n : ℕ) (a b : UnitPlaces) → n < length p.units.items → Changes p one n a → Changes one two n b → Changes p two n b
 changes_on p one two n a b inside first second = record {
   laid = second.laid;
-  units = second.units ∙ ap (λ (us : List UnitPlaces). set us n b) first.units ∙ set_twice p.units.items n a b;
+  units = second.units ∙ ap (λ (us : List UnitPlaces). set us n b) first.units ∙ set-set p.units.items n a b;
   others = λ m d.
       let same : unit_in one.units.items m ≡ unit_in p.units.items m = ap (λ (us : List UnitPlaces). unit_in us m) first.units ∙ unit_other p.units.items n m a d in
       ap (λ (u : UnitPlaces). entry_in (value_at two.pool) u.slot) (sym same) ∙ second.others m d ∙ ap (λ (u : UnitPlaces). entry_in (value_at one.pool) u.slot) same ∙ first.others m d;

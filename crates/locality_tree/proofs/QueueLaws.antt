@@ -1,5 +1,5 @@
 -- The laws of queues that the lemmas take, as `wait_queue` tells them, and what follows of members.
-use Rattle.std.proofs.Common.{◌≡◌, ◌≢◌, ◌<◌, Bool, true, List, ◌∷◌, ◌++◌, Option, Some, None, is_some, IsSome, refl, sym, ap, subst, ◌∙◌}
+use Rattle.std.proofs.Common.{◌≡◌, ◌≢◌, ◌<◌, true, List, ◌∷◌, ◌++◌, Option, Some, None, IsSome, refl}
 use Rattle.std.specs.List.{AllByRecursion}
 use Rattle.fuxi_terms.proofs.Members.{In}
 use Rattle.slot_pool.specs.Pools.{PoolRecord, value_at}

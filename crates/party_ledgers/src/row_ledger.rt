@@ -80,7 +80,7 @@ impl RowChange {
         }
     }
 
-    /// No change, with room for at least `n`.
+    /// No change. Room for `n` entries is asked for at once.
     pub fn with_room(alloc: Global, n: usize) -> Result<RowChange, OutOfMemory>
         ensures { IfOk result (λ change. change ≡ []) }
     {

@@ -1,5 +1,5 @@
 -- Masters in their slots.
-use Rattle.std.proofs.Common.{◌≡◌, ℕ, ◌<◌, Bool, true, false, cond, not, nat_eq, List, [], ◌∷◌, map, Option, Some, None, is_some, Result, Ok, Err, ◌≤◌, refl, sym, ◌∙◌, ap, subst}
+use Rattle.std.proofs.Common.{◌≡◌, ℕ, ◌<◌, Bool, true, false, cond, not, nat_eq, List, [], ◌∷◌, Option, Some, None, is_some, Result, Ok, Err, ◌≤◌, refl, sym, ◌∙◌, ap, subst}
 use Rattle.std.specs.Prelude.{IfOk, IfSome, OnOk, T, ◌||◌}
 use Rattle.std.specs.List.{AllByRecursion, list_any}
 use Rattle.std.specs.List.Sorted.{IsStrictlySortedBy}
@@ -35,7 +35,7 @@ use Rattle.written_world.specs.Good.{Good}
 use Rattle.written_world.specs.Events.{commanded, without_master}
 use Rattle.written_join.specs.SeenWorlds.{master_seen}
 use Rattle.fuxi_master.specs.Cores.{MasterRecord, StandsFor}
-use Rattle.fuxi_master.specs.Steps.{StepsAlike, answer_of}
+use Rattle.fuxi_master.specs.Steps.{StepsAlike}
 use Rattle.fuxi_master.specs.declared.event.MasterEvent.TheVariants.{Packet as PacketComes, Turn, Resync}
 use Rattle.hard_state.specs.HardFiles.{Kept}
 use Rattle.party_orders.specs.OrderedParties.{KnowsWritten, LeavesOrder, ObeyedAs}

@@ -17,7 +17,7 @@ use Rattle.fuxi_terms.specs.Tables.{spot, held_on, total_at, without_grants, Tab
 use Rattle.fuxi_terms.proofs.Alls.{all_more}
 use Rattle.fuxi_terms.proofs.Booleans.{both_true, and_true, number_is, nat_itself, or_true}
 use Rattle.fuxi_terms.proofs.ByPlace.{at_place-get_or}
-use Rattle.fuxi_terms.proofs.CountsLemmas.{tied, count-set_count, counts-set_count, same_counts, count_le}
+use Rattle.fuxi_terms.proofs.CountsLemmas.{tied, count-set_count, counts-set_count, same_counts, set_twice, count_le}
 use Rattle.fuxi_terms.proofs.KeyOrders.{spot_total, same_spot}
 use Rattle.fuxi_terms.proofs.Members.{each_place}
 use Rattle.fuxi_terms.proofs.Sums.{sum_set}
@@ -59,18 +59,6 @@ kept_others [] es m n a u h = refl
 kept_others (v ∷ vs) es m n a u h = kept_others vs (without_count es (spot v.app.0 v.unit.0 m) v.count) m n a u h.1 ∙ kept_one es m n a u v h.0
 
 -- ---- one by one
--- setting a number twice is setting it once
-set_again : (es : Table) (s : Spot) (n k : ℕ) → AreNumbers es → n ≤ greatest_count → k ≤ greatest_count → set_count spot_cmp (set_count spot_cmp es s n) s k ≡ set_count spot_cmp es s k
-set_again es s n k h le le' =
-    let one = counts-set_count spot_total (λ s. greatest_count) same_spot es s n le h in
-    same_counts spot_total same_spot (λ s. greatest_count) (set_count spot_cmp (set_count spot_cmp es s n) s k) (set_count spot_cmp es s k)
-    (counts-set_count spot_total (λ s. greatest_count) same_spot (set_count spot_cmp es s n) s k le' one) (counts-set_count spot_total (λ s. greatest_count) same_spot es s k le' h)
-    (λ q. count-set_count spot_total (set_count spot_cmp es s n) s k q ∙ ap (cond (eq_by_cmp spot_cmp q s) k) (count-set_count spot_total es s n q) ∙ twice (eq_by_cmp spot_cmp q s) (count spot_cmp es q) ∙ sym (count-set_count spot_total es s k q))
-  where
-    twice : (b : Bool) (c : ℕ) → cond b k (cond b n c) ≡ cond b k c
-    twice true c = refl
-    twice false c = refl
-
 set_same : (es : Table) (s : Spot) → AreNumbers es → set_count spot_cmp es s (count spot_cmp es s) ≡ es
 set_same es s h =
     let le = count_le spot_total same_spot (λ s. greatest_count) es s h.within in
@@ -91,7 +79,7 @@ run_without (suc n) es s ss h =
     let left : count spot_cmp one s - n ≡ count spot_cmp es s - suc n = omega (arith, now) in
     run_without n one s ss (fewer_counts es s 1 h)
     ∙ ap (λ k. without_grants (set_count spot_cmp one s k) ss) left
-    ∙ ap (λ fs. without_grants fs ss) (set_again es s (count spot_cmp es s - 1) (count spot_cmp es s - suc n) h (omega (arith, le)) (omega (arith, le)))
+    ∙ ap (λ fs. without_grants fs ss) (set_twice spot_total same_spot (λ s. greatest_count) es s (count spot_cmp es s - 1) (count spot_cmp es s - suc n) h (omega (arith, le)) (omega (arith, le)))
 
 pub taken_singly : (vs : List Victim) (es : Table) (m : ℕ) → AreNumbers es → without_victims es m vs ≡ without_grants es (losers_of m vs)
 taken_singly [] es m h = refl

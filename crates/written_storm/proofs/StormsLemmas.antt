@@ -28,7 +28,7 @@ use Rattle.storm_run.specs.Clusters.{storm_cluster}
 use Rattle.storm_run.specs.Generators.{drawn, next, number}
 use Rattle.storm_run.specs.Storms.{Storm, all_stepped, all_taken, closed, each, job, opened, stepped, storm, storm_at, submitted, taken}
 use Rattle.storm_run.specs.Summaries.{answer, count_lines, line, storm_of, summary}
-use Rattle.written_calm.specs.CalmRounds.{AreNamed, CalmBringsQuiet, CalmKeeps, IsManned}
+use Rattle.written_calm.specs.CalmRounds.{CalmBringsQuiet, CalmKeeps}
 use Rattle.written_calm.specs.CalmRounds as calm
 use Rattle.written_storm.specs.StormEnds.{EndsQuiet, EndsWith}
 use Rattle.written_storm.proofs.BefallsLemmas.{Facts, Harmless, befalls}

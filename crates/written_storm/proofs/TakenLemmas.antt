@@ -15,7 +15,7 @@ use Rattle.schedule_replay.specs.WorldSteps.{limit_of}
 use Rattle.storm_run.specs.Choices.{counted}
 use Rattle.storm_run.specs.Clusters.{storm_cluster}
 use Rattle.storm_run.specs.Storms.{all_taken, closed, delivered, each, master_turned, peers_turned, round, rounds, taken, unless_past, with_delivery}
-use Rattle.written_calm.specs.CalmRounds.{IsAsBefore, calm_round, calm_rounds, delivered_since, master_tells, peers_tell, peers_turn}
+use Rattle.written_calm.specs.CalmRounds.{IsAsBefore, calm_rounds, delivered_since, master_tells, peers_tell, peers_turn}
 use Rattle.written_calm.specs.CalmRounds as calm
 
 -- one thing done, and then another

@@ -1,6 +1,6 @@
-use Rattle.std.proofs.Common.{◌≡◌, sym, ◌∙◌, ap, subst, arith}
+use Rattle.std.proofs.Common.{◌≡◌, sym, ◌∙◌, ap, arith}
 use Rattle.fuxi_terms.specs.Tables.{held_on}
-use Rattle.allotment.specs.Allotted.{AllotmentRecord, AllWait, Clears}
+use Rattle.allotment.specs.Allotted.{AllotmentRecord}
 use Rattle.allotment.proofs.ClearsLemmas.{cleared_spot, none_held}
 use Rattle.allotment.proofs.allotment_of.Allotment.clear.Goals as goal
 

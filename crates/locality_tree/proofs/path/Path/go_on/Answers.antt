@@ -1,4 +1,4 @@
-use Rattle.std.proofs.Common.{sym, subst, ◌≡◌, ◌<◌, ◌≤◌, arith, Option}
+use Rattle.std.proofs.Common.{subst, ◌≡◌, arith}
 use Rattle.slot_pool.specs.Pools.{value_at}
 use Rattle.locality_tree.proofs.QueueLaws.{live, same_entry}
 use Rattle.locality_tree.proofs.PathsLemmas.{at_slot, next_level, next_priority, ends, way_less, way_small, looks_level, looks_start}

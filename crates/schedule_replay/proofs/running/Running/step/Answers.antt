@@ -2,7 +2,7 @@ use Rattle.std.proofs.Common.{◌<◌, ◌≤◌, ◌^◌, sym, subst}
 use Rattle.fuxi_terms.specs.Limits.{most_packets, most_packet_bytes}
 use Rattle.schedule_replay.specs.LineEvents.{event_as}
 use Rattle.schedule_replay.specs.Worlds.{WorldRecord, IsReached}
-use Rattle.schedule_replay.specs.WorldSteps.{StopsAt, Takes}
+use Rattle.schedule_replay.specs.WorldSteps.{StopsAt}
 use Rattle.schedule_replay.proofs.WorldStepsLemmas.{can_move, can_move_long, reached_by, stops, taken_by}
 use Rattle.schedule_replay.proofs.running.Running.step.Goals as goal
 
