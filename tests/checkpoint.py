@@ -1,8 +1,8 @@
 #!/usr/bin/env python3
-"""Reads checkpoints by a reader of its own, and compares each with what `core_cases` says of the same bytes.
+"""Reads checkpoints by a reader of its own, and compares each with what `core_golden` says of the same bytes.
 
 A checkpoint of some hundred records is cut at each length, and each of its bytes is set to 0, 1, 255 and one more than it is.
-Usage: tests/checkpoint.py PROGRAM [SEED [RECORDS]], where PROGRAM is the built `core_cases`."""
+Usage: tests/checkpoint.py PROGRAM [SEED [RECORDS]], where PROGRAM is the built `core_golden`."""
 import random, subprocess, sys
 
 MOST_RECORDS = 65536

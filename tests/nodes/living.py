@@ -89,7 +89,7 @@ def start_party(program, folder, name, address, *words):
     place = os.path.join(folder, name)
     os.makedirs(place, exist_ok=True)
     words = [f"{TOP}/tools/party", *words[:1], address, *words[1:], "--cluster", f"{TOP}/tools/cluster.jobs", "--round", "5", "--folder", place]
-    return subprocess.Popen(words, env={**os.environ, "FUXI": program}, stdin=subprocess.DEVNULL), place
+    return subprocess.Popen(words, env={**os.environ, "FUXI": program}, stdin=subprocess.DEVNULL, stderr=subprocess.DEVNULL), place
 
 
 def ask(place, line):
@@ -97,7 +97,7 @@ def ask(place, line):
     limit = time.monotonic() + PATIENCE
     while True:
         try:
-            return tell(place, line).splitlines()
+            return tell(place, line)[1].splitlines()
         except OSError:
             if time.monotonic() > limit:
                 raise Difference(f"{place} is not reached") from None
@@ -150,11 +150,11 @@ def serve_parties(program):
 
 
 def hears_nonsense(program):
-    """Whether a line that a node cannot read ends that node alone, and the cluster goes on."""
+    """Whether a line that a node could not read is told to none."""
     with tempfile.TemporaryDirectory() as folder:
         process = subprocess.Popen([f"{TOP}/tools/cluster", "--folder", folder, "--calm"], env={**os.environ, "FUXI": program}, stdin=subprocess.DEVNULL, stdout=subprocess.DEVNULL)
         try:
-            for line, wanted in [("nonsense", "no such command here"), ("ban x", "status 3"), ("want 0 0 x", "status 3"), ("show", "state "), ("end", "ends")]:
+            for line, wanted in [("nonsense", "UnknownWord"), ("ban x", "BadNumber 2"), ("want 0 0 x", "BadNumber 3"), ("show", "state "), ("end", "ends")]:
                 said = ask(folder, line)
                 if not said or wanted not in said[0]:
                     raise Difference(f"to {line!r} tools/cluster says {said}")

@@ -1,18 +1,36 @@
 """Commands to a living cluster, by a socket in its folder: one line, and its answer."""
 
+import errno
+import fcntl
 import os
 import socket
 
+from shared.commands import NotDone, answered, checked, with_epoch
+from shared.line_faults import BAD_INPUT
 from shared.processes import Difference
 
-HELP = "submit JOB GROUP P Q .. · finish JOB · ban M · unban M · preempt · begin · want|near|rack|avoid|back JOB .. · kill master|agent M|app JOB · show · end"
+# A node that is in a round answers once that has ended.
+TELL_SECONDS = 60.0
+# The last line of an answer.
+STATUS = "status"
+PLAIN = ("help", "cluster", "avoided", "end")
+HELP = [
+    "show · show agent M · show app A         what the master, an agent or an application prints",
+    "submit * JOB GROUP P Q .. · finish * JOB",
+    "ban * M · unban * M · preempt * · begin *    (`*` is the epoch, and may be left out)",
+    "want JOB U N · near JOB U M N · rack JOB U R N · avoid JOB U M X · back JOB U M N",
+    "kill master · kill agent M · kill app JOB    the party is started again",
+    "cluster · avoided · end · help           the line of the cluster; what jobs avoid; the end of it all",
+]
 
 
 class Listener:
-    """The socket `control` of a folder: each that comes has one line, which `answer` answers by lines."""
+    """The socket `control` of a folder: each that comes has one line, which `answer` answers by lines. The folder is locked for as long as the
+    process runs, so a socket that stands there is one that a process left which was killed."""
 
-    def __init__(self, folder, answer):
+    def __init__(self, folder, answer=None):
         self.path, self.answer = os.path.join(folder, "control"), answer
+        self.lock = lock_of(folder)
         if os.path.exists(self.path):
             os.remove(self.path)
         self.socket = socket.socket(socket.AF_UNIX, socket.SOCK_STREAM)
@@ -32,11 +50,14 @@ class Listener:
                 self.serve_one(side)
 
     def serve_one(self, side):
+        """The answer, and behind it a line `status N`: 0 where the command was done."""
         try:
-            line = side.makefile().readline().strip()
-            side.sendall("".join(f"{it}\n" for it in self.answer(line)).encode())
-        except (ValueError, IndexError, KeyError, TypeError):
-            side.sendall(f"no such command here; there are: {HELP}\n".encode())
+            line = side.makefile(encoding="latin-1", newline="\n").readline().strip()
+            try:
+                lines, status = self.answer(line), 0
+            except NotDone as why:
+                lines, status = why.lines, why.status
+            side.sendall("".join(f"{it}\n" for it in [*lines, f"{STATUS} {status}"]).encode("latin-1", "replace"))
         except OSError:
             pass
 
@@ -44,13 +65,28 @@ class Listener:
         self.socket.close()
         if os.path.exists(self.path):
             os.remove(self.path)
+        os.close(self.lock)
+
+
+def lock_of(folder):
+    """Holds the folder for this process, and answers what holds it."""
+    held = os.open(folder, os.O_RDONLY | os.O_DIRECTORY)
+    try:
+        fcntl.flock(held, fcntl.LOCK_EX | fcntl.LOCK_NB)
+    except BlockingIOError:
+        os.close(held)
+        raise Difference(f"another node or cluster runs in {folder}: each has a folder of its own") from None
+    except OSError:
+        # (not every shared file system locks a folder; a master's file has a lock of its own)
+        pass
+    return held
 
 
 class Control:
-    """Commands to a living cluster."""
+    """Commands to a living cluster, which comes to it once it lives."""
 
-    def __init__(self, living, folder):
-        self.living, self.listener, self.is_ended = living, Listener(folder, self.answer), False
+    def __init__(self, folder):
+        self.living, self.listener, self.is_ended = None, Listener(folder, self.answer), False
 
     def serve(self):
         self.listener.serve()
@@ -59,45 +95,96 @@ class Control:
         self.listener.close()
 
     def answer(self, line):
-        """What comes of a command. A node that cannot read its line ends, and is started again."""
+        """What comes of a command. A node that ends over its line is started again."""
         try:
             return self.done(line)
         except Difference as why:
             if not self.living.mend():
                 raise
-            return [str(why), "started again"]
+            raise NotDone([str(why), "started again"]) from None
 
     def done(self, line):
         living, words = self.living, line.split()
-        if words == ["end"]:
-            self.is_ended = True
-            return ["ends"]
-        if words == ["show"]:
-            return living.ask_master("show")
-        if words[0] == "kill":
+        if line in PLAIN:
+            return getattr(self, line)()
+        if words[:1] == ["kill"]:
             return self.kill(*words[1:])
-        if words[0] == "submit":
-            living.jobs.submitted[int(words[1])] = " ".join(words[1:])
-            living.jobs.demands.setdefault(int(words[1]), [])
-            return living.submit(int(words[1])) or ["submitted"]
-        if words[0] in ("want", "near", "rack", "avoid", "back"):
-            return living.demand(living.apps[int(words[1])], line) or ["told"]
-        if words[0] in ("finish", "ban", "unban", "preempt", "begin"):
-            return living.ask_master(" ".join([words[0], str(living.epoch), *words[1:]])) or ["done"]
-        raise ValueError(line)
+        if words[:1] == ["show"] and len(words) > 1:
+            return self.party(*words[1:]).node.show()
+        if words[:1] == ["submit"]:
+            return self.submit(self.checked(with_epoch(line, living.epoch), "master"))
+        if words[:1] in [[it] for it in ("want", "near", "rack", "avoid", "back")]:
+            self.checked(line, "app")
+            return answered(living.demand(self.party("app", words[1]), line))
+        return answered(living.ask_master(self.checked(with_epoch(line, living.epoch), "master")))
 
-    def kill(self, kind, number="0"):
-        if kind == "master":
+    def checked(self, line, kind):
+        return checked(self.living.program, self.living.shape.line(), line, kind)
+
+    def help(self):
+        return HELP
+
+    def cluster(self):
+        return [self.living.shape.line()]
+
+    def avoided(self):
+        """What applications avoid, as they were told it."""
+        return [f"avoid {job} {unit} {machine}" for job, app in sorted(self.living.apps.items()) for unit, machine in sorted(app.avoided)]
+
+    def end(self):
+        self.is_ended = True
+        return ["ends"]
+
+    def party(self, kind, number):
+        """The party that a command names."""
+        parties = {"agent": dict(enumerate(self.living.agents)), "app": self.living.apps}
+        if kind not in parties or not number.isdigit():
+            raise NotDone([f"no such command here: {kind} {number}; `help` lists them"], BAD_INPUT)
+        if int(number) not in parties[kind]:
+            raise NotDone([f"refused NotRunning: there is no {kind} {number}"])
+        return parties[kind][int(number)]
+
+    def submit(self, line):
+        """A job, and its application. One that is refused leaves the job as it was that had its number."""
+        jobs, (_, _, number, *rest) = self.living.jobs, line.split()
+        job = int(number)
+        before = jobs.submitted.get(job)
+        jobs.submitted[job] = " ".join([number, *rest])
+        jobs.demands.setdefault(job, [])
+        refused = self.living.submit(job)
+        if refused and before is None:
+            del jobs.submitted[job], jobs.demands[job]
+        elif refused:
+            jobs.submitted[job] = before
+        return answered(refused)
+
+    def kill(self, *words):
+        if words == ("master",):
             self.living.kill_master()
+        elif len(words) == 2:
+            self.living.restart(self.party(*words))
         else:
-            self.living.restart({"agent": self.living.agents, "app": self.living.apps}[kind][int(number)])
+            raise NotDone(["kill takes master, agent M or app A"], BAD_INPUT)
         return ["killed, and started again"]
 
 
+def unreached(folder, why):
+    """Why a command was not answered."""
+    is_nobody = why.errno in (errno.ENOENT, errno.ENOTDIR, errno.ECONNREFUSED)
+    return f"{'no cluster runs in ' if is_nobody else ''}{folder}: {why.strerror or why}"
+
+
 def tell(folder, line):
-    """Hands a command to the cluster of a folder, and answers what it says."""
+    """Hands a command to the cluster or the node of a folder: the status, and what it says."""
     with socket.socket(socket.AF_UNIX, socket.SOCK_STREAM) as side:
+        side.settimeout(TELL_SECONDS)
         side.connect(os.path.join(folder, "control"))
         side.sendall(f"{line}\n".encode())
         side.shutdown(socket.SHUT_WR)
-        return side.makefile().read()
+        try:
+            said, _, last = side.makefile(errors="replace", newline="\n").read().rstrip("\n").rpartition("\n")
+        except socket.timeout:
+            raise OSError(errno.ETIMEDOUT, f"it does not answer within {TELL_SECONDS:.0f} seconds") from None
+    if not last.startswith(f"{STATUS} "):
+        raise OSError(errno.ECONNRESET, "it ended over the command")
+    return int(last.split()[1]), f"{said}\n" if said else ""

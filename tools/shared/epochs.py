@@ -8,8 +8,8 @@ import time
 import urllib.error
 import urllib.request
 
+from shared.endings import leashed
 from shared.processes import Difference
-
 
 # An answer of `fuxi lease` comes at once.
 LEASE_SECONDS = 10.0
@@ -23,7 +23,7 @@ class LeaseEpochs:
     name = "fuxi lease"
 
     def __init__(self, program, folder):
-        pipes = {"stdin": subprocess.PIPE, "stdout": subprocess.PIPE, "stderr": subprocess.DEVNULL, "text": True, "bufsize": 1, "start_new_session": True}
+        pipes = {"stdin": subprocess.PIPE, "stdout": subprocess.PIPE, "stderr": subprocess.DEVNULL, "text": True, "bufsize": 1, **leashed()}
         self.process, self.holder = subprocess.Popen([program, "lease"], cwd=folder, **pipes), 0
 
     def ask(self, line):

@@ -1,14 +1,13 @@
 """A replay that grows: its lines so far are run again whenever lines come to it, and what the new ones printed is told."""
 
 import re
-import subprocess
 
+from shared.programs import replay
 from shared.states import State
 
 # A delivery of a packet that no run has: it is refused, and tells how many packets were sent. It stands behind each line.
 ASK = f"deliver {2**64 - 1}"
 ANSWER = "refused NoPacket "
-SECONDS = 60
 
 
 class NotTaken(Exception):
@@ -28,11 +27,12 @@ class Live:
 
     def run(self):
         text = "".join(f"{line}\n{ASK}\n" if place else f"{line}\n" for place, line in enumerate(self.lines))
-        ran = subprocess.run([self.program, "replay"], input=text, capture_output=True, encoding="latin-1", timeout=SECONDS)
+        ran = replay(self.program, text.encode("latin-1"))
+        said = ran.stderr.decode(errors="replace").strip()
         if ran.returncode:
-            found = re.match(r"line (\d+): (.+)", ran.stderr)
-            raise NotTaken(int(found[1]) // 2 if found else len(self.lines) - 1, found[2] if found else ran.stderr.strip())
-        return ran.stdout.splitlines()
+            found = re.match(r"line (\d+): (.+)", said)
+            raise NotTaken(int(found[1]) // 2 if found else len(self.lines) - 1, found[2] if found else said)
+        return ran.stdout.decode("latin-1").splitlines()
 
     def take(self, lines):
         """Does these events, and answers each with what it printed."""

@@ -1,9 +1,13 @@
 """The lower part of a picture: over the events, the use of each machine, of each group, and the units that wait."""
 
+import textwrap
+
+from shared.picture_style import NOTE_LETTER
 from shared.states import used_by, used_on
 
 ROW, GAP = 17.0, 9.0
 MOST_MACHINES, MOST_RESOURCES, MOST_GROUPS, MOST_UNITS = 24, 3, 12, 24
+LEFT_OF_JOBS = 150.0
 # A use above its limit is drawn up to here.
 TALLEST = 1.2
 
@@ -29,21 +33,20 @@ class Charts:
         if count > most:
             self.picture.left_out.append(f"{count - most} {what}")
 
-    def rows(self, title):
-        """The bottom of each row of a chart, one for each kind of resource, with its frame."""
+    def rows(self, title, quantities):
+        """The bottom of each row of a chart, one for each kind of resource, with its frame; full, a row is the quantity that stands behind it."""
         top = self.picture.y + GAP
-        self.drawing.text(12, top + 12, title, "name")
+        self.picture.name(top + 12, title)
         for resource in self.resources:
             y = top + (resource + 1) * (ROW + 2)
             self.drawing.rect(self.picture.x(0, 0), y - ROW, self.picture.right() - self.picture.x(0, 0), ROW, "frame")
-            if len(self.resources) > 1:
-                self.drawing.text(self.picture.right() + 4, y - 5, str(resource), "small")
+            self.drawing.text(self.picture.right() + 4, y - 5, f"resource {resource}: {short_quantity(quantities[resource])}", "small", title=f"{quantities[resource]:,}")
             self.picture.y = y
             yield resource, y
 
     def machine(self, machine):
         _, has = self.cluster.machines[machine]
-        for resource, y in self.rows(f"machine {machine}: {' '.join(map(str, has))}"):
+        for resource, y in self.rows(f"machine {machine}", has):
             self.background(machine, y)
             self.enforced(machine, resource, has[resource], y)
             for epoch in self.epochs:
@@ -56,8 +59,9 @@ class Charts:
                     self.bar(first, behind, y, ROW, kind)
 
     def bar(self, first, behind, y, height, kind, **more):
-        """A bar from the column of the first event to that of the one behind the last, standing at y."""
-        self.drawing.rect(self.picture.x(first, 0), y - height, (behind - first) * self.picture.width, height, kind, **more)
+        """A bar over the states behind these events, standing at y."""
+        start = self.picture.edge(first)
+        self.drawing.rect(start, y - height, self.picture.edge(behind) - start, height, kind, **more)
 
     def enforced(self, machine, resource, has, y):
         """What the agent enforces, by job, one on the other."""
@@ -83,13 +87,13 @@ class Charts:
         for first, behind, used in self.picture.runs_of(use):
             if used is not None:
                 height = ROW * used / has if has else 0
-                points += [(self.picture.x(first, 0), y - height), (self.picture.x(behind, 0), y - height)]
+                points += [(self.picture.edge(first), y - height), (self.picture.edge(behind), y - height)]
         if points and any(at < y for _, at in points):
             self.drawing.path(points, "granted" if epoch == self.epochs[-1] else "granted-before")
 
     def group(self, group):
         quota, limit = self.cluster.groups[group]
-        for resource, y in self.rows(f"group {group}: limit {' '.join(map(str, limit))}"):
+        for resource, y in self.rows(f"group {group}", limit):
             if not limit[resource]:
                 continue
             for first, behind, share in self.picture.runs_of(lambda state: self.share(state, group, resource, limit[resource])):
@@ -113,22 +117,34 @@ class Charts:
         for job, unit in pairs[:MOST_UNITS]:
             self.picture.y += GAP + 12
             y = self.picture.y
-            self.drawing.text(12, y - 1, f"job {job} unit {unit} waits for", "name")
+            self.picture.name(y - 1, f"job {job} unit {unit} waits for")
             for first, behind, count in self.picture.runs_of(lambda state: state.masters[max(state.masters)].waits.get((job, unit), 0) if state.masters else 0):
                 if count:
                     self.bar(first, behind, y, 12, "waits")
                     if (behind - first) * self.picture.width > 6 * len(str(count)) + 2:
-                        self.drawing.text(self.picture.x(first, 0) + 2, y - 2.5, str(count), "wants")
+                        self.drawing.text(self.picture.edge(first) + 2, y - 2.5, str(count), "wants")
 
     def jobs(self):
         """Which colour is whose."""
         self.picture.y += GAP + 14
-        x = 150.0
-        self.drawing.text(12, self.picture.y, "jobs", "name")
+        self.picture.name(self.picture.y, "jobs")
+        x, room = LEFT_OF_JOBS, self.picture.whole_width()
         for number, job in sorted(self.picture.jobs.items()):
             words = f"{number}: group {job.group}, " + " / ".join(f"priority {unit.priority} size {' '.join(map(str, unit.size))}" for unit in job.units)
-            if x > 150 and x + 6.2 * len(words) > self.picture.whole_width():
-                x, self.picture.y = 150.0, self.picture.y + 16
+            if x > LEFT_OF_JOBS and x + NOTE_LETTER * len(words) + 30 > room:
+                x, self.picture.y = LEFT_OF_JOBS, self.picture.y + 16
             self.drawing.rect(x, self.picture.y - 9, 10, 10, "job", fill=self.picture.job_colour(number))
-            self.drawing.text(x + 14, self.picture.y, words, "note")
-            x += 40 + 6.0 * len(words)
+            first, *more = textwrap.wrap(words, int((room - LEFT_OF_JOBS - 30) / NOTE_LETTER))
+            self.drawing.text(x + 14, self.picture.y, first, "note")
+            for line in more:
+                self.picture.y += 14
+                self.drawing.text(x + 14, self.picture.y, line, "note")
+            x += 40 + NOTE_LETTER * len(first) if not more else room
+
+
+def short_quantity(quantity):
+    """A quantity in few letters."""
+    for size, letter in ((10**12, "T"), (10**9, "G"), (10**6, "M")):
+        if quantity >= size:
+            return f"{quantity / size:.4g}{letter}"
+    return str(quantity)

@@ -5,24 +5,34 @@ from shared.picture_style import LABELLED_COLUMN
 LANE, MOST_LANES = 24.0, 40
 # Past so many arrows, those of acknowledgements are left out.
 MOST_ARROWS = 700
+KINDS = {"master": "masters", "agent": "agents", "app": "applications"}
 
 
 class Lanes:
     def __init__(self, picture):
-        self.picture, self.drawing, self.places = picture, picture.drawing, {}
+        self.picture, self.drawing, self.places, self.counts = picture, picture.drawing, {}, {}
 
     def parties(self):
         """All that ever ran: masters, agents, applications."""
         masters = sorted({epoch for state in self.picture.states for epoch in state.masters})
         agents = sorted({machine for state in self.picture.states for machine in state.agents})
         apps = sorted({job for state in self.picture.states for job in state.apps})
-        return [*(("master", it) for it in masters), *(("agent", it) for it in agents), *(("app", it) for it in apps)]
+        return {"master": masters, "agent": agents, "app": apps}
+
+    def drawn(self):
+        """Those that are drawn: where there are too many, some of each kind, by their numbers."""
+        left, found = MOST_LANES, self.parties()
+        for share, kind in ((4, "master"), (2, "app"), (1, "agent")):
+            others = sum(len(numbers) for other, numbers in found.items() if other != kind and other not in self.counts)
+            self.counts[kind] = min(len(found[kind]), max(left // share, left - others))
+            left -= self.counts[kind]
+            missing = len(found[kind]) - self.counts[kind]
+            if missing:
+                self.picture.left_out.append(f"the lines of {missing} {KINDS[kind]}, with their packets")
+        return [(kind, number) for kind, numbers in found.items() for number in numbers[: self.counts[kind]]]
 
     def draw(self):
-        parties = self.parties()
-        if len(parties) > MOST_LANES:
-            self.picture.left_out.append(f"the lines of {len(parties) - MOST_LANES} parties, with their packets")
-        drawn = parties[:MOST_LANES]
+        drawn = self.drawn()
         self.draw_columns(self.picture.y, self.picture.y + LANE * len(drawn))
         for party in drawn:
             self.picture.y += LANE
@@ -39,7 +49,7 @@ class Lanes:
 
     def draw_lane(self, role, number):
         y, names = self.picture.y, {"master": "master {}", "agent": "agent of machine {}", "app": "application {}"}
-        self.drawing.text(12, y + 4, names[role].format(number), "name")
+        self.picture.name(y + 4, names[role].format(number))
         self.drawing.line(self.picture.x(0, 0), y, self.picture.right(), y, "lane")
         if role == "master":
             self.draw_master(number, y)
@@ -49,23 +59,37 @@ class Lanes:
     def draw_master(self, epoch, y):
         for first, behind, phase in self.picture.runs_of(lambda state: state.masters[epoch].phase if epoch in state.masters else None):
             if phase:
-                self.drawing.rect(self.picture.x(first, 0.5), y - 4, (behind - first - 0.5) * self.picture.width, 8, phase)
-                if (behind - first) * self.picture.width > 70:
-                    self.drawing.text(self.picture.x(first, 0.5) + 3, y - 6, phase, "small")
+                start, end = self.picture.edge(first), self.picture.edge(behind)
+                self.drawing.rect(start, y - 4, end - start, 8, phase)
+                if end - start > 70:
+                    self.drawing.text(start + 3, y - 6, phase, "small")
+            elif first >= 0:
+                self.draw_end(first, y)
+
+    def draw_end(self, column, y):
+        """The mark where a master stopped, with a cross where that was within a writing."""
+        event, x = self.picture.events[column][1], self.picture.edge(column)
+        if event.line.words[0] in ("stop", "halt") and not event.refusal:
+            self.drawing.line(x, y - 8, x, y + 8, "end")
+            if event.line.words[0] == "halt":
+                self.cross(x, y, "cross end")
 
     def draw_boots(self, role, number, y):
         """A line while it runs, with a circle at each start; and red while its machine is banned."""
         if role == "agent":
             for first, behind, is_banned in self.picture.runs_of(lambda state: number in state.bans):
                 if is_banned:
-                    self.drawing.rect(self.picture.x(first, 0), y - 9, (behind - first) * self.picture.width, 18, "banned")
+                    self.drawing.rect(self.picture.edge(first), y - 9, self.picture.edge(behind) - self.picture.edge(first), 18, "banned")
         running = {"agent": lambda state: state.agents, "app": lambda state: state.apps}[role]
         for first, behind, boot in self.picture.runs_of(lambda state: running(state)[number].boot if number in running(state) else None):
             if boot:
-                self.drawing.line(self.picture.x(first), y, self.picture.x(behind, 0), y, "runs")
-                self.drawing.add("circle", cx=self.picture.x(first), cy=float(y), r=3.2, kind="start")
+                start = self.picture.edge(first)
+                self.drawing.line(start, y, self.picture.edge(behind), y, "runs")
+                # (one that ran before what is drawn does not start there)
+                if first >= 0:
+                    self.drawing.add("circle", cx=start, cy=float(y), r=3.2, kind="start")
                 if boot > 1:
-                    self.drawing.text(self.picture.x(first) + 4, y - 5, f"boot {boot}", "small")
+                    self.drawing.text(start + 4, y - 5, f"boot {boot}", "small")
 
     def at(self, event, place, of):
         """Where in the column of an event one of its packets stands; nothing where the event is not drawn."""

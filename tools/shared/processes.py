@@ -6,6 +6,8 @@ import subprocess
 import time
 from collections import deque
 
+from shared.endings import leashed
+
 # How long a node may take for a line, on a machine that has much else to do.
 PATIENCE = 30.0
 # What a node prints to a line of another kind of node.
@@ -25,11 +27,10 @@ class Node:
     """A node as a process of the program, or of these words that run it. Whatever is waited for has a time limit: a node that hangs is a difference, and no script that hangs."""
 
     def __init__(self, program, folder, words, cluster_line, journal):
-        self.name, self.journal, self.events, self.unread = " ".join(map(str, words)), journal, 0, b""
+        self.name, self.program, self.journal, self.events, self.unread = " ".join(map(str, words)), program, journal, 0, b""
         # (refused by each node of this kind: once that is printed, all that was told before is done)
         self.aside = "round" if words[0] == "master" else "serve"
-        # (a session of its own: Ctrl-C at a terminal is for whoever drives it)
-        pipes = {"stdin": subprocess.PIPE, "stdout": subprocess.PIPE, "stderr": subprocess.PIPE, "bufsize": 0, "start_new_session": True}
+        pipes = {"stdin": subprocess.PIPE, "stdout": subprocess.PIPE, "stderr": subprocess.PIPE, "bufsize": 0, **leashed()}
         front = [program] if isinstance(program, str) else list(program)
         self.process = subprocess.Popen([*front, "node", *map(str, words)], cwd=folder, **pipes)
         self.note("starts")

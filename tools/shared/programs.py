@@ -3,7 +3,9 @@
 import contextlib
 import functools
 import os
+import subprocess
 import sys
+import tempfile
 import time
 
 from shared import toolchain, trying
@@ -28,6 +30,14 @@ def runnable():
     if named and not os.access(named, os.X_OK):
         fail("fuxi", f"{named}, which the environment has as FUXI, cannot be run")
     return named or current("fuxi")
+
+
+def replay(program, data):
+    """The run of a schedule. (It reads a file and no pipe, so whoever feeds it meets no broken one where it ends before its input does.)"""
+    with tempfile.TemporaryFile() as file:
+        file.write(data)
+        file.seek(0)
+        return subprocess.run([program, "replay"], stdin=file, capture_output=True)
 
 
 def current(name):

@@ -1,9 +1,8 @@
 """A schedule run by the program, event by event, with the state behind each. All that is known of a run is the program's own text."""
 
 import re
-import subprocess
 
-from shared.programs import runnable
+from shared.programs import replay, runnable
 from shared.schedules import Cluster, Job, read_lines
 from shared.states import State
 
@@ -26,7 +25,7 @@ def read_file(path):
 
 def run_program(data):
     """The status, the lines of the output and the error text of a run."""
-    ran = subprocess.run([runnable(), "replay"], input=data, stdout=subprocess.PIPE, stderr=subprocess.PIPE)
+    ran = replay(runnable(), data)
     said = ran.stderr.decode(errors="replace").strip().splitlines()
     return ran.returncode, ran.stdout.decode("latin-1").splitlines(), said[-1] if said else ""
 

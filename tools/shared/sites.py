@@ -1,22 +1,37 @@
 """Where masters run: on this machine, or by turns in network namespaces as on machines of their own, with one address that moves to who leads."""
 
+import fcntl
+import os
+import re
 import shutil
 import socket
 import subprocess
+import tempfile
 
-from shared.processes import Difference
 from shared.parties import text_of
+from shared.processes import Difference
 
 MASTERS = "127.0.0.2"
 # The namespaces hang on a bridge; its address is that of the agents and applications.
 BRIDGE, NET, MOVING = "fuxi-br", "10.77.61", "10.77.61.100"
 PORT = 7000
+# Who has the namespaces holds a lock on this file, which goes with its process.
+LOCK = os.path.join(tempfile.gettempdir(), "fuxi-namespaces.lock")
 
 
 def free_address():
     """An address for masters at which nobody listens. No connection that goes out has a port of this address, so it stays free."""
     with socket.create_server((MASTERS, 0)) as listener:
         return listener.getsockname()
+
+
+def can_listen():
+    """Whether masters can be reached here at all."""
+    try:
+        with socket.create_server((MASTERS, 0)) as listener, socket.create_connection(listener.getsockname(), 5):
+            return True
+    except OSError:
+        return False
 
 
 class Loopback:
@@ -50,6 +65,12 @@ class Namespaces:
         if not shutil.which("ip"):
             raise Difference("the command ip was not found: Debian has it in iproute2")
         self.count, self.address, self.site, self.made = count, f"{MOVING}:{PORT}", None, []
+        self.lock = open(LOCK, "a", encoding="ascii")
+        try:
+            fcntl.flock(self.lock, fcntl.LOCK_EX | fcntl.LOCK_NB)
+        except BlockingIOError:
+            raise Difference(f"another cluster runs in the namespaces of this machine: it holds {LOCK}") from None
+        clear_left()
         try:
             self.make()
         except Difference:
@@ -88,3 +109,14 @@ class Namespaces:
         for words in reversed(self.made):
             subprocess.run(["ip", *words], capture_output=True)
         self.made = []
+        self.lock.close()
+
+
+def clear_left():
+    """Takes away the namespaces and links of a cluster that was killed. (Who holds the lock knows that nobody has them.)"""
+    names = subprocess.run(["ip", "netns", "list"], capture_output=True, text=True).stdout
+    for name in re.findall(r"(?m)^fuxi-\d+\b", names):
+        subprocess.run(["ip", "netns", "del", name], capture_output=True)
+    links = subprocess.run(["ip", "-o", "link"], capture_output=True, text=True).stdout
+    for name in re.findall(rf"(?m)^\d+: ({BRIDGE}|fuxi-\d+-out)[@:]", links):
+        subprocess.run(["ip", "link", "del", name], capture_output=True)

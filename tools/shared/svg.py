@@ -27,11 +27,14 @@ class Drawing:
         shape = "M" + " L".join(f"{number(x)} {number(y)}" for x, y in points)
         self.add("path", None if title is None else f"<title>{escape(title)}</title>", d=shape, kind=kind, **more)
 
-    def text(self, x, y, words, kind, **more):
-        self.add("text", escape(words), x=float(x), y=float(y), kind=kind, **more)
+    def text(self, x, y, words, kind, title=None, **more):
+        hint = f"<title>{escape(title)}</title>" if title else ""
+        self.add("text", escape(words) + hint, x=float(x), y=float(y), kind=kind, **more)
 
-    def whole(self, width, height):
-        head = f'<svg xmlns="http://www.w3.org/2000/svg" width="{number(width)}" height="{number(height)}" viewBox="0 0 {number(width)} {number(height)}">'
+    def whole(self, width, height, title, description):
+        box = f'width="{number(width)}" height="{number(height)}" viewBox="0 0 {number(width)} {number(height)}"'
+        head = f'<svg xmlns="http://www.w3.org/2000/svg" {box} role="img" aria-labelledby="picture-title picture-description">'
+        head += f'\n<title id="picture-title">{escape(title)}</title><desc id="picture-description">{escape(description)}</desc>'
         rules = f"<style>{self.style}</style><defs>{''.join(self.definitions)}</defs>"
-        ground = '<rect width="100%" height="100%" fill="#ffffff"/>'
+        ground = '<rect width="100%" height="100%" class="ground"/>'
         return "\n".join([head, rules, ground, *self.parts, "</svg>"]) + "\n"

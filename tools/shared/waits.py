@@ -35,9 +35,11 @@ class Waits:
                 found.append(f"too small: {left[place]} of resource {place} are free, and a grant takes {quantity}")
         return found
 
-    def lines(self):
+    def lines(self, only=None):
+        """The reasons of all jobs, or of one alone."""
         for epoch, master in self.state.masters.items():
-            for (job, unit), count in master.waits.items():
+            waits = {pair: count for pair, count in master.waits.items() if only in (None, pair[0])}
+            for (job, unit), count in waits.items():
                 size = " ".join(map(str, self.jobs[job].units[unit].size))
                 yield f"unit {unit} of job {job} waits for {count} more, of {size} each, at master {epoch}, because"
                 if master.phase == "rebuilding":

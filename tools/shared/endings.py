@@ -1,0 +1,57 @@
+"""How a run of processes is asked to end: Ctrl-C, a unit that is stopped, a terminal that is closed."""
+
+import contextlib
+import ctypes
+import os
+import signal
+
+# prctl's word for the signal that a process gets when its parent ends.
+SET_PARENT_DEATH_SIGNAL = 1
+LIBRARY = ctypes.CDLL(None)
+
+
+class BrokenOff(Exception):
+    """A signal came that ends the run at once."""
+
+
+class Ending:
+    """The signals so far. Within `gently` the first one is a flag that the run reads between its rounds, and the second one breaks it off;
+    outside of it the first one does. Once it is broken off, or closes, no signal disturbs what is cleared away."""
+
+    def __init__(self):
+        self.is_asked, self.is_gentle, self.is_closing = False, False, False
+        for number in (signal.SIGINT, signal.SIGTERM, signal.SIGHUP):
+            signal.signal(number, self.take)
+
+    def take(self, number, _):
+        if self.is_closing:
+            return
+        if self.is_gentle and not self.is_asked:
+            self.is_asked = True
+            return
+        self.is_closing = True
+        raise BrokenOff(f"broken off by {signal.Signals(number).name}")
+
+    @contextlib.contextmanager
+    def gently(self):
+        self.is_gentle = True
+        try:
+            yield
+        finally:
+            self.is_gentle = False
+
+    def close(self):
+        self.is_closing = True
+
+
+def end_with(parent):
+    """For the side of a new process: it ends when the process that started it does, however that ends."""
+    LIBRARY.prctl(SET_PARENT_DEATH_SIGNAL, signal.SIGKILL, 0, 0, 0)
+    if os.getppid() != parent:
+        os._exit(1)
+
+
+def leashed():
+    """The words for `Popen` of a process that does not outlive this one. (A session of its own: Ctrl-C at a terminal is for whoever drives it.)"""
+    parent = os.getpid()
+    return {"start_new_session": True, "preexec_fn": lambda: end_with(parent)}

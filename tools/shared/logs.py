@@ -1,0 +1,54 @@
+"""What a node's tool says of it while it runs: a line for each thing that happens, on standard error."""
+
+import json
+import sys
+import time
+
+# Rounds that are lost are told once in so many seconds.
+LOSS_SECONDS = 10.0
+
+
+class Log:
+    """Lines for people, or JSON for programs: the same words either way."""
+
+    def __init__(self, tool, name, is_json):
+        self.tool, self.name, self.is_json = tool, name, is_json
+
+    def say(self, event, text, **values):
+        if self.is_json:
+            moment = time.strftime("%Y-%m-%dT%H:%M:%S", time.gmtime()) + "Z"
+            line = json.dumps({"time": moment, "node": self.name, "event": event, "text": text, **values})
+        else:
+            line = f"{self.tool}: {self.name}: {text}"
+        try:
+            print(line, file=sys.stderr, flush=True)
+        except OSError:
+            # (a node goes on though nobody reads what is said of it)
+            pass
+
+
+class Losses:
+    """Rounds that were not done: told when they begin, now and then, and when they are done again."""
+
+    def __init__(self, log):
+        self.log, self.count, self.since, self.told_at, self.is_new = log, 0, None, 0.0, True
+
+    def take(self, line):
+        now = time.monotonic()
+        if line.startswith("round done "):
+            self.done(now)
+        else:
+            self.lost(line, now)
+
+    def lost(self, line, now):
+        self.count, self.since = self.count + 1, self.since or now
+        if now - self.told_at >= LOSS_SECONDS:
+            self.told_at = now
+            self.log.say("lost", f"a round is lost: {line}" + (f" ({self.count} in a row)" if self.count > 1 else ""), line=line, count=self.count)
+
+    def done(self, now):
+        if self.is_new:
+            self.log.say("done", "a first round is done")
+        elif self.count and self.told_at >= self.since:
+            self.log.say("done", f"rounds are done again: {self.count} were lost in {now - self.since:.1f} s", count=self.count, seconds=round(now - self.since, 1))
+        self.is_new, self.count, self.since = False, 0, None

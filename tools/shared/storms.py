@@ -1,0 +1,149 @@
+"""Storms of any size, drawn by a number: with the sizes and the chances that `fuxi storm` has, the events are the ones that it makes
+(docs/FORMATS.md, "A storm")."""
+
+import contextlib
+import json
+import random
+import signal
+import subprocess
+
+from shared.live import ANSWER, ASK
+
+DELIVER, TURN_MASTER, TURN_AGENT, TURN_APP, WANT, NEAR, BACK, RESTART = 3, 4, 5, 6, 7, 8, 9, 10
+KINDS, MOST_WANTED, MOST_NEAR, CALM_ROUNDS = 12, 41, 5, 8
+# Of each job the group, the priority and the size; further ones take them by turns.
+JOBS = ["0 5 100 400", "0 3 200 300", "1 4 50 700"]
+
+
+class BadStorm(Exception):
+    """The program takes no more lines, and why."""
+
+
+# Lines that print more than a refusal: whoever tells them reads what they print, before the pipe is full.
+PRINT = ("turn", "deliver", "dump", "show", "judge")
+
+
+class Replay:
+    """A run that goes on: it is told lines, and says what they print and how many packets were sent."""
+
+    def __init__(self, program, cluster):
+        # (the program may end before all is read)
+        signal.signal(signal.SIGPIPE, signal.SIG_IGN)
+        self.ran = subprocess.Popen([program, "replay"], stdin=subprocess.PIPE, stdout=subprocess.PIPE, stderr=subprocess.PIPE, text=True)
+        self.tell(cluster)
+
+    def tell(self, line):
+        self.ran.stdin.write(f"{line}\n")
+
+    def printed(self):
+        """What was printed since this was asked last, and last the answer to it."""
+        lines = []
+        try:
+            self.tell(ASK)
+            self.ran.stdin.flush()
+            for line in self.ran.stdout:
+                lines.append(line)
+                if line.startswith(ANSWER):
+                    return lines
+        except BrokenPipeError:
+            pass
+        raise BadStorm(f"the program ends: {self.ran.stderr.read().strip()}")
+
+    def close(self):
+        self.ran.kill()
+        self.ran.wait()
+        for pipe in (self.ran.stdin, self.ran.stdout, self.ran.stderr):
+            with contextlib.suppress(BrokenPipeError):
+                pipe.close()
+
+
+class Storm:
+    """The lines of a storm, one by one."""
+
+    def __init__(self, program, seed, machines, jobs, loss, restarts):
+        self.seed, self.x, self.machines, self.jobs, self.loss, self.restarts = seed, seed, machines, jobs, loss, restarts
+        self.fence, self.boots, self.program, self.sent = 1, [1] * machines, program, 0
+
+    def cluster(self):
+        count = self.machines
+        machines = [{"rack": machine // 2 % 64, "has": [1000, 4000]} for machine in range(count)]
+        groups = [{"quota": [500 * count, 2000 * count], "limit": [part * count, 4 * part * count]} for part in (1000, 750)]
+        return json.dumps({"resources": 2, "machines": machines, "groups": groups})
+
+    def draw(self, bound):
+        self.x = (self.x * 6364136223846793005 + 1442695040888963407) % 2**64
+        return self.x // 2**33 % bound
+
+    def lines(self, steps):
+        """The cluster, and behind it each event."""
+        replay = Replay(self.program, self.cluster())
+        try:
+            yield self.cluster()
+            for line in self.events(steps):
+                replay.tell(line)
+                if line.startswith(PRINT):
+                    self.sent = int(replay.printed()[-1].split()[2])
+                yield line
+        finally:
+            replay.close()
+
+    def events(self, steps):
+        yield "master 1"
+        yield from (f"agent {machine} 1" for machine in range(self.machines))
+        yield from (f"submit 1 {job} {JOBS[job % len(JOBS)]}" for job in range(self.jobs))
+        yield from (f"app {job} 1" for job in range(self.jobs))
+        for _ in range(steps):
+            yield from self.step(self.draw(KINDS))
+        for _ in range(CALM_ROUNDS):
+            yield from self.heard([f"turn master {self.fence}"])
+            yield from self.heard([*(f"turn agent {it}" for it in range(self.machines)), *(f"turn app {it}" for it in range(self.jobs))])
+        yield from self.heard([f"turn master {self.fence}"])
+
+    def step(self, kind):
+        if kind <= DELIVER:
+            yield from self.delivery()
+        elif kind == TURN_MASTER:
+            yield f"turn master {self.fence}"
+        elif kind == TURN_AGENT:
+            yield f"turn agent {self.draw(self.machines)}"
+        elif kind == TURN_APP:
+            yield f"turn app {self.draw(self.jobs)}"
+        elif kind == WANT:
+            yield f"want {self.draw(self.jobs)} 0 {self.draw(MOST_WANTED)}"
+        elif kind == NEAR:
+            yield f"near {self.draw(self.jobs)} 0 {self.draw(self.machines)} {self.draw(MOST_NEAR)}"
+        elif kind == BACK:
+            yield f"back {self.draw(self.jobs)} 0 {self.draw(self.machines)} 1"
+        elif kind == RESTART:
+            yield from self.restart(self.draw(self.machines), self.draw(100))
+        else:
+            yield from self.trouble(self.draw(10))
+
+    def delivery(self):
+        if self.sent:
+            packet = 1 + self.draw(self.sent)
+            # (a packet that is lost is lost however often it is drawn)
+            if random.Random(f"{self.seed} {packet}").random() * 100 >= self.loss:
+                yield f"deliver {packet}"
+
+    def restart(self, machine, number):
+        # (of a hundred numbers these are the ones that are 0 modulo 10 where it is ten of them, as `fuxi storm` has it)
+        if number % 10 * 10 + number // 10 < self.restarts:
+            self.boots[machine] += 1
+            yield f"agent {machine} {self.boots[machine]}"
+
+    def trouble(self, number):
+        if number == 0:
+            if self.fence >= 2:
+                yield f"stop {self.fence - 1}"
+            self.fence += 1
+            yield f"master {self.fence}"
+        elif number <= 3:
+            yield f"{('preempt', 'begin', 'resync master')[number - 1]} {self.fence}"
+
+    def heard(self, turns):
+        """Turns of which all packets arrive."""
+        before = self.sent
+        yield from turns
+        if self.sent > before:
+            yield f"deliver {before + 1} {self.sent}"
