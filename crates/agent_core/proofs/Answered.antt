@@ -13,14 +13,14 @@ use Rattle.party_ledgers.specs.PacketHeaders.{header_of}
 use Rattle.party_ledgers.specs.declared.header.Header.{Header}
 use Rattle.party_ledgers.specs.declared.packets.Heard.{Heard}
 use Rattle.party_ledgers.specs.declared.packets.Packet.{Packet}
-use Rattle.written_net.specs.Net.{Id, same_id}
-use Rattle.written_net.specs.Ledgers.{Ledger, row_ledger, report_ledger}
-use Rattle.written_net.specs.Channels.{agent_id, is_master}
-use Rattle.written_net.specs.Sides.{HeardSide, hears_side, appended}
-use Rattle.written_roles.specs.Agents.{AgentRole, agent_party, table_by, row_excess, agent_told, agent_hears_alone}
-use Rattle.core_side.specs.Bodies.{report_of}
-use Rattle.core_side.specs.Parcels.{party_of, packet_of, parcel_is}
-use Rattle.core_side.specs.CoreSides.{HearsAlike, PostsAlike}
+use Rattle.spec_net.specs.Net.{Id, same_id}
+use Rattle.spec_net.specs.Ledgers.{Ledger, row_ledger, report_ledger}
+use Rattle.spec_net.specs.Channels.{agent_id, is_master}
+use Rattle.spec_net.specs.Sides.{HeardSide, hears_side, appended}
+use Rattle.spec_roles.specs.Agents.{AgentRole, agent_party, table_by, row_excess, agent_told, agent_hears_alone}
+use Rattle.peer_channel.specs.Bodies.{report_of}
+use Rattle.peer_channel.specs.Parcels.{party_of, packet_of, parcel_is}
+use Rattle.peer_channel.specs.CoreSides.{HearsAlike, PostsAlike}
 use Rattle.agent_core.specs.AgentCores.{AgentCore, Up, IsUp, StandsFor}
 use Rattle.agent_core.specs.Answering.{Answers, AnswersAlike}
 

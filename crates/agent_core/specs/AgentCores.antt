@@ -7,11 +7,11 @@ use Rattle.fuxi_terms.specs.Vectors.{fits}
 use Rattle.full_sync.specs.Turns.{Endpoint}
 use Rattle.party_ledgers.specs.Joins.{JoinRecord, no_join, IsJoin}
 use Rattle.party_ledgers.specs.PartyDifferences.{replaced}
-use Rattle.written_net.specs.Ledgers.{row_ledger}
-use Rattle.written_net.specs.Sides.{Side}
-use Rattle.written_roles.specs.Agents.{AgentRole}
-use Rattle.core_side.specs.Bodies.{report_of}
-use Rattle.core_side.specs.CoreSides.{IsSide}
+use Rattle.spec_net.specs.Ledgers.{row_ledger}
+use Rattle.spec_net.specs.Sides.{Side}
+use Rattle.spec_roles.specs.Agents.{AgentRole}
+use Rattle.peer_channel.specs.Bodies.{report_of}
+use Rattle.peer_channel.specs.CoreSides.{IsSide}
 
 -- both directions of its channel: it sends reports and receives rows
 abbrev pub Up : Type 0

@@ -2,8 +2,8 @@
 use Rattle.std.specs.Prelude.{◌≡◌, ◌+◌, List, map}
 use Rattle.party_ledgers.specs.declared.packets.Heard.{Heard}
 use Rattle.party_ledgers.specs.declared.packets.Packet.{Packet}
-use Rattle.written_roles.specs.Agents.{AgentRole, agent_hears_alone, agent_turn, agent_resynced}
-use Rattle.core_side.specs.Parcels.{parcel_is}
+use Rattle.spec_roles.specs.Agents.{AgentRole, agent_hears_alone, agent_turn, agent_resynced}
+use Rattle.peer_channel.specs.Parcels.{parcel_is}
 use Rattle.agent_core.specs.AgentCores.{AgentCore, StandsFor}
 
 -- the agent by itself hears the packet, and the new one stands for it then

@@ -2,8 +2,8 @@ ghost use Rattle.std.specs.Prelude.{◌≡◌, cond, None, Some, Ok, Err};
 ghost use Rattle.fuxi_terms.specs.Rows.{row_total};
 ghost use Rattle.fuxi_terms.specs.Vectors.{fits};
 
-use core_side::{Excess, Limit, Refusal};
 use party_ledgers::{RowChange, RowLedger};
+use peer_channel::{Excess, Limit, Refusal};
 use res_vector::{Res, Sum, sum_fits};
 
 // A row that fits the machine. Its measure is its total.
@@ -27,7 +27,7 @@ impl Limit<RowLedger> for RowLimit {
     ghost use Rattle.std.specs.Prelude.{◌≡◌, true};
     ghost use Rattle.fuxi_terms.specs.Rows.{row_total};
     ghost use Rattle.fuxi_terms.specs.Vectors.{fits};
-    ghost use Rattle.written_roles.specs.Agents.{row_excess};
+    ghost use Rattle.spec_roles.specs.Agents.{row_excess};
 
     type Measure = Sum;
 

@@ -8,8 +8,8 @@ use Rattle.fuxi_terms.specs.Counts.{count}
 use Rattle.fuxi_terms.specs.Keys.{spot_cmp, Pair}
 use Rattle.fuxi_terms.specs.Tables.{spot, held}
 use Rattle.fuxi_terms.proofs.Booleans.{both_true, and_true, number_is, nat_itself, or_right}
-use Rattle.written_roles.specs.Masters.{Master, asked, out_of}
-use Rattle.written_roles.specs.Placing.{has_pair, line_after}
+use Rattle.spec_roles.specs.Masters.{Master, asked, out_of}
+use Rattle.spec_roles.specs.Placing.{has_pair, line_after}
 use Rattle.grant_table.specs.GrantTables.{TableRecord, with_count}
 use Rattle.place_pass.specs.Placers.{SeenRecord, asks_seen, line_told}
 use Rattle.allotment.specs.PlacingReads.{IsPlacing}

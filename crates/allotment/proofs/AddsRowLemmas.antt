@@ -23,8 +23,8 @@ use Rattle.fuxi_terms.proofs.CountsLemmas.{both_true as both, lesser, tied, belo
 use Rattle.fuxi_terms.proofs.KeyOrders.{spot_total, same_spot, row_key_total}
 use Rattle.fuxi_terms.proofs.Lists.{all_at, take_last}
 use Rattle.fuxi_terms.proofs.VectorLaws.{at_place-plus, at_place-times, at_place-padded, same_at_places}
-use Rattle.written_roles.specs.Masters.{Master, asked, out_of}
-use Rattle.written_roles.specs.Placing.{has_pair, line_after}
+use Rattle.spec_roles.specs.Masters.{Master, asked, out_of}
+use Rattle.spec_roles.specs.Placing.{has_pair, line_after}
 use Rattle.grant_table.specs.GrantTables.{TableRecord, as_known, with_count}
 use Rattle.allotment.specs.Allotted.{AllotmentRecord, Allots, AllWait, Adds, AddsRow, rows_put}
 use Rattle.allotment.proofs.ClearsLemmas.{is_spot, touched_again, untouched}

@@ -11,8 +11,8 @@ use Rattle.fuxi_terms.specs.Numbers.{with_number}
 use Rattle.fuxi_terms.specs.TallyKeys.{want_key, near_key, rack_key, avoid_key}
 use Rattle.fuxi_terms.proofs.Booleans.{number_is}
 use Rattle.fuxi_terms.proofs.Lookups.{none_is}
-use Rattle.written_roles.specs.HardState.{with_job}
-use Rattle.written_roles.specs.Masters.{Master}
+use Rattle.spec_roles.specs.HardState.{with_job}
+use Rattle.spec_roles.specs.Masters.{Master}
 use Rattle.grant_table.specs.GrantTables.{TableRecord, as_known, with_admitted}
 use Rattle.place_pass.specs.Placers.{SeenRecord, asks_seen}
 use Rattle.allotment.specs.PlacingReads.{IsPlacing}

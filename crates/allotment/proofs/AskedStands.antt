@@ -12,9 +12,9 @@ use Rattle.fuxi_terms.specs.Jobs.{KnownJob, unit_count, job_of}
 use Rattle.fuxi_terms.specs.Keys.{key_cmp}
 use Rattle.fuxi_terms.specs.TallyKeys.{want_key, near_key, rack_key, avoid_key}
 use Rattle.fuxi_terms.proofs.KeyOrders.{same_key}
-use Rattle.written_net.specs.Ledgers.{Ledger, nothing, tally_ledger}
-use Rattle.written_roles.specs.Masters.{Master, asked, demand_of}
-use Rattle.written_roles.specs.MasterSteps.{counted, is_there as counts_there}
+use Rattle.spec_net.specs.Ledgers.{Ledger, nothing, tally_ledger}
+use Rattle.spec_roles.specs.Masters.{Master, asked, demand_of}
+use Rattle.spec_roles.specs.MasterSteps.{counted, is_there as counts_there}
 use Rattle.grant_table.specs.GrantTables.{TableRecord, as_known}
 use Rattle.place_pass.specs.Placers.{SeenRecord, asks_seen, asks_after, units_seen, is_there}
 use Rattle.allotment.specs.PlacingReads.{IsPlacing, record_of}

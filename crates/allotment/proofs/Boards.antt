@@ -13,8 +13,8 @@ use Rattle.fuxi_terms.specs.Keys.{Pair}
 use Rattle.fuxi_terms.specs.Jobs.{KnownJob, job_of, units_of, no_unit, group_of}
 use Rattle.fuxi_terms.specs.TallyKeys.{want_key, near_key, rack_key, avoid_key}
 use Rattle.fuxi_terms.proofs.Lookups.{by_record}
-use Rattle.written_roles.specs.Masters.{Master, asked}
-use Rattle.written_roles.specs.Placing.{Board, board, line_up, lined, first_in, first_of, candidates_in, places_in, may_grow_in, first_placeable, waiting_pairs, is_usable}
+use Rattle.spec_roles.specs.Masters.{Master, asked}
+use Rattle.spec_roles.specs.Placing.{Board, board, line_up, lined, first_in, first_of, candidates_in, places_in, may_grow_in, first_placeable, waiting_pairs, is_usable}
 use Rattle.grant_table.specs.GrantTables.{TableRecord, as_known}
 use Rattle.place_pass.specs.Placers.{SeenRecord, board_with, waiting_with, is_open_to}
 use Rattle.allotment.specs.PlacingReads.{record_of, IsPlacing}

@@ -15,7 +15,7 @@ use Rattle.fuxi_terms.proofs.CountsLemmas.{same_counts, counts-where_key}
 use Rattle.fuxi_terms.proofs.KeyOrders.{spot_total, same_spot}
 use Rattle.fuxi_terms.proofs.Lists.{all_at}
 use Rattle.fuxi_terms.proofs.Spots.{each_found}
-use Rattle.written_roles.specs.Masters.{Master}
+use Rattle.spec_roles.specs.Masters.{Master}
 use Rattle.grant_table.specs.GrantTables.{TableRecord, IsSound, AreJobs, as_known}
 use Rattle.allotment.specs.Allotted.{AllotmentRecord, Allots, Clears}
 

@@ -13,7 +13,7 @@ use Rattle.fuxi_terms.specs.Tables.{spot, held_on, Table}
 use Rattle.fuxi_terms.proofs.Booleans.{both_true, and_true, number_is, nat_itself, same_tests, and_false}
 use Rattle.fuxi_terms.proofs.CountsLemmas.{tied, count-set_count}
 use Rattle.fuxi_terms.proofs.KeyOrders.{spot_total, same_spot}
-use Rattle.written_roles.specs.Masters.{Master}
+use Rattle.spec_roles.specs.Masters.{Master}
 use Rattle.grant_table.specs.GrantTables.{TableRecord, AreJobs, as_known, without_count}
 use Rattle.place_pass.specs.Placers.{SeenRecord}
 use Rattle.allotment.specs.PlacingReads.{IsPlacing, has_spot}

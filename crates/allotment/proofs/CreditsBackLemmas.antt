@@ -14,8 +14,8 @@ use Rattle.fuxi_terms.specs.TallyKeys.{credited_key, is_back}
 use Rattle.fuxi_terms.specs.Tables.{spot, held_on, Table}
 use Rattle.fuxi_terms.proofs.Booleans.{and_true, both_true, number_is}
 use Rattle.fuxi_terms.proofs.Lists.{take_last}
-use Rattle.written_roles.specs.Masters.{Master}
-use Rattle.written_roles.specs.MasterSteps.{credit, is_there}
+use Rattle.spec_roles.specs.Masters.{Master}
+use Rattle.spec_roles.specs.MasterSteps.{credit, is_there}
 use Rattle.grant_table.specs.GrantTables.{TableRecord, as_known, without_count}
 use Rattle.allotment.specs.Allotted.{AllotmentRecord, Allots, AllWait, Touches, CreditsBack}
 use Rattle.allotment.proofs.AskedStands.{same_units}

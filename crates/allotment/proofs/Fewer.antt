@@ -12,8 +12,8 @@ use Rattle.fuxi_terms.specs.Tables.{spot, held, Table}
 use Rattle.fuxi_terms.proofs.Booleans.{both_false}
 use Rattle.fuxi_terms.proofs.CountsLemmas.{count-set_count}
 use Rattle.fuxi_terms.proofs.KeyOrders.{spot_total}
-use Rattle.written_roles.specs.Masters.{Master, out_of}
-use Rattle.written_roles.specs.Placing.{has_pair}
+use Rattle.spec_roles.specs.Masters.{Master, out_of}
+use Rattle.spec_roles.specs.Placing.{has_pair}
 use Rattle.grant_table.specs.GrantTables.{TableRecord, without_count}
 use Rattle.grant_table.specs.declared.asking.Pick.{Pick}
 use Rattle.place_pass.specs.Best.{spot_of}

@@ -15,8 +15,8 @@ use Rattle.fuxi_terms.specs.Tables.{held, with_grant, Table}
 use Rattle.fuxi_terms.proofs.Booleans.{both_true, number_is}
 use Rattle.fuxi_terms.proofs.CountsLemmas.{count-set_count, set_twice}
 use Rattle.fuxi_terms.proofs.KeyOrders.{spot_total, same_spot}
-use Rattle.written_roles.specs.Masters.{Master, level_of, out_of}
-use Rattle.written_roles.specs.Placing.{Board, accepts_in, first_in, has_room_in, is_allowed_in, may_grow_in, placeable_in}
+use Rattle.spec_roles.specs.Masters.{Master, level_of, out_of}
+use Rattle.spec_roles.specs.Placing.{Board, accepts_in, first_in, has_room_in, is_allowed_in, may_grow_in, placeable_in}
 use Rattle.grant_table.specs.GrantTables.{TableRecord, IsSound, as_known}
 use Rattle.place_pass.specs.Placers.{SeenRecord, asks_seen, board_with, IsUpToDate}
 use Rattle.allotment.specs.SettlingRuns.{IsSettling, Repeats, all_out, told_grant}

@@ -12,8 +12,8 @@ use Rattle.fuxi_terms.proofs.Alls.{all_append, all_more, all_mapped, all_passed}
 use Rattle.fuxi_terms.proofs.Booleans.{both_true, number_is, nat_itself, or_right, eq_turned}
 use Rattle.fuxi_terms.proofs.Members.{In, sum_lt, sum_filter}
 use Rattle.fuxi_terms.specs.Tables.{Table}
-use Rattle.written_roles.specs.Masters.{out_of}
-use Rattle.written_roles.specs.Placing.{Board, Ranked, ranked_in, places_in, candidates_in, may_grow_in, accepts_in, has_room_in, least, first_of, first_in, has_pair, line_after}
+use Rattle.spec_roles.specs.Masters.{out_of}
+use Rattle.spec_roles.specs.Placing.{Board, Ranked, ranked_in, places_in, candidates_in, may_grow_in, accepts_in, has_room_in, least, first_of, first_in, has_pair, line_after}
 
 -- ---- the pair that is placed stands in the line, and something of it is out
 record IsCandidate (b : Board) (table : Table) (line : List Pair) (r : Ranked) : Type 0 where

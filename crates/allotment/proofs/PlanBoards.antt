@@ -14,10 +14,10 @@ use Rattle.fuxi_terms.specs.Numbers.{has_number}
 use Rattle.fuxi_terms.specs.TallyKeys.{avoid_key}
 use Rattle.fuxi_terms.specs.Vectors.{at_place}
 use Rattle.fuxi_terms.proofs.Booleans.{both_true, and_true, or_left, or_right, nat_itself}
-use Rattle.written_roles.specs.Masters.{Master, avoids, out_of}
-use Rattle.written_roles.specs.Placing.{Board, board, accepts_in, has_pair}
-use Rattle.written_roles.specs.Preemption.{plan_in, plan_of, tried_in, by_priority_in, falling_priorities}
-use Rattle.written_roles.specs.Preemption.{Plan as WrittenPlan}
+use Rattle.spec_roles.specs.Masters.{Master, avoids, out_of}
+use Rattle.spec_roles.specs.Placing.{Board, board, accepts_in, has_pair}
+use Rattle.spec_roles.specs.Preemption.{plan_in, plan_of, tried_in, by_priority_in, falling_priorities}
+use Rattle.spec_roles.specs.Preemption.{Plan as WrittenPlan}
 use Rattle.grant_table.specs.GrantTables.{TableRecord, as_known}
 use Rattle.place_pass.specs.Placers.{SeenRecord, usable_in, units_seen, asks_seen, IsUpToDate}
 use Rattle.preempt.specs.declared.plan.Plan.{Plan}

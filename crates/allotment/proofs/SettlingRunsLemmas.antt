@@ -15,8 +15,8 @@ use Rattle.fuxi_terms.specs.Tables.{held, with_grant, Table}
 use Rattle.fuxi_terms.proofs.Booleans.{both_true, both_false}
 use Rattle.fuxi_terms.proofs.CountsLemmas.{count-set_count}
 use Rattle.fuxi_terms.proofs.KeyOrders.{spot_total}
-use Rattle.written_roles.specs.Masters.{Master, out_of}
-use Rattle.written_roles.specs.Placing.{first_in, has_pair, granted, settled}
+use Rattle.spec_roles.specs.Masters.{Master, out_of}
+use Rattle.spec_roles.specs.Placing.{first_in, has_pair, granted, settled}
 use Rattle.grant_table.specs.GrantTables.{TableRecord, as_known}
 use Rattle.place_pass.specs.Placers.{SeenRecord, asks_seen, board_with, line_told, IsUpToDate}
 use Rattle.allotment.specs.PlacingReads.{IsPlacing}

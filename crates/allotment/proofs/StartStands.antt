@@ -6,7 +6,7 @@ use Rattle.fuxi_terms.specs.declared.Key.{Key}
 use Rattle.fuxi_terms.specs.Jobs.{job_numbers}
 use Rattle.fuxi_terms.specs.Numbers.{has_number}
 use Rattle.fuxi_terms.specs.TallyKeys.{want_key, near_key, rack_key, avoid_key}
-use Rattle.written_roles.specs.Masters.{Master, asked}
+use Rattle.spec_roles.specs.Masters.{Master, asked}
 use Rattle.grant_table.specs.GrantTables.{TableRecord}
 use Rattle.place_pass.specs.Cells.{Cell, no_cell, asks_at, asks_in}
 use Rattle.place_pass.specs.Placers.{SeenRecord}

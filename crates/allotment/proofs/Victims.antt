@@ -8,7 +8,7 @@ use Rattle.fuxi_terms.specs.Jobs.{unit_count}
 use Rattle.fuxi_terms.specs.Tables.{spot, held_on, Table}
 use Rattle.fuxi_terms.proofs.Booleans.{both_true, and_true}
 use Rattle.fuxi_terms.proofs.Lists.{all_at, take_last}
-use Rattle.written_roles.specs.Masters.{Master}
+use Rattle.spec_roles.specs.Masters.{Master}
 use Rattle.grant_table.specs.GrantTables.{TableRecord, as_known, without_count}
 use Rattle.preempt.specs.declared.plan.Victim.{Victim}
 use Rattle.preempt.specs.Plans.{without_victims, is_unit, same_unit, IsTakable, AreTakable}

@@ -7,10 +7,10 @@ use Rattle.fuxi_terms.specs.Tables.{spot, Table}
 use Rattle.std.specs.FinMap.Entries.{put}
 use Rattle.fuxi_terms.specs.TallyKeys.{credited_key, is_back}
 use Rattle.fuxi_terms.specs.declared.Key.{Key}
-use Rattle.written_net.specs.Ledgers.{tally_ledger}
-use Rattle.written_roles.specs.MasterSteps.{counted, credit}
-use Rattle.written_roles.specs.Masters.{Master, asked, out_of}
-use Rattle.written_roles.specs.Placing.{has_pair, line_after}
+use Rattle.spec_net.specs.Ledgers.{tally_ledger}
+use Rattle.spec_roles.specs.MasterSteps.{counted, credit}
+use Rattle.spec_roles.specs.Masters.{Master, asked, out_of}
+use Rattle.spec_roles.specs.Placing.{has_pair, line_after}
 use Rattle.grant_table.specs.GrantTables.{TableRecord, IsSound, with_count}
 use Rattle.grant_table.specs.declared.asking.Pick.{Pick}
 use Rattle.place_pass.specs.Best.{spot_of}

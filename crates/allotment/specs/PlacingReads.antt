@@ -8,7 +8,7 @@ use Rattle.fuxi_terms.specs.Jobs.{KnownJob, job_of, job_numbers}
 use Rattle.fuxi_terms.specs.Keys.{Spot, spot_cmp}
 use Rattle.fuxi_terms.specs.Numbers.{has_number}
 use Rattle.fuxi_terms.specs.TallyKeys.{want_key, near_key, rack_key, avoid_key}
-use Rattle.written_roles.specs.Masters.{Master, asked}
+use Rattle.spec_roles.specs.Masters.{Master, asked}
 use Rattle.grant_table.specs.GrantTables.{TableRecord, as_known}
 use Rattle.place_pass.specs.Placers.{SeenRecord, asks_seen, is_open}
 

@@ -5,9 +5,9 @@ use Rattle.fuxi_terms.specs.Cluster.{ClusterRecord}
 use Rattle.fuxi_terms.specs.Counts.{count, set_count}
 use Rattle.fuxi_terms.specs.Keys.{Spot, spot_cmp, Pair}
 use Rattle.fuxi_terms.specs.Tables.{Table}
-use Rattle.written_roles.specs.Masters.{Master, out_of}
-use Rattle.written_roles.specs.Placing.{settled}
-use Rattle.written_roles.specs.Settling.{Picks}
+use Rattle.spec_roles.specs.Masters.{Master, out_of}
+use Rattle.spec_roles.specs.Placing.{settled}
+use Rattle.spec_roles.specs.Settling.{Picks}
 use Rattle.grant_table.specs.GrantTables.{TableRecord}
 use Rattle.place_pass.specs.Placers.{SeenRecord, asks_seen, line_told}
 use Rattle.allotment.specs.PlacingReads.{IsPlacing, has_spot}

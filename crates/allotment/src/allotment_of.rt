@@ -54,22 +54,22 @@ impl Allotment {
     ghost use Rattle.fuxi_terms.specs.Numbers.{has_number};
     ghost use Rattle.fuxi_terms.specs.Tables.{spot, held_on, total_at};
     ghost use Rattle.grant_table.specs.GrantTables.{as_known, with_admitted, without_count};
-    ghost use Rattle.written_roles.specs.HardState.{with_job};
-    ghost use Rattle.written_roles.specs.Masters.{Master, out_of};
-    ghost use Rattle.written_roles.specs.Placing.{line_up, settled};
+    ghost use Rattle.spec_roles.specs.HardState.{with_job};
+    ghost use Rattle.spec_roles.specs.Masters.{Master, out_of};
+    ghost use Rattle.spec_roles.specs.Placing.{line_up, settled};
     ghost use Rattle.place_pass.specs.Placers.{IsUpToDate, AsksNoMore, AsksOtherwiseAt, asks_seen, is_open, units_seen};
     ghost use Rattle.std.specs.Option.{option_map};
     ghost use Rattle.place_pass.specs.Best.{spot_of};
     ghost use Rattle.preempt.specs.Plans.{AreTakable, CanBeMade, plan_as};
-    ghost use Rattle.written_roles.specs.Preemption.{plan_of, preempted};
+    ghost use Rattle.spec_roles.specs.Preemption.{plan_of, preempted};
     ghost use Rattle.std.specs.Ordering.{nat_cmp};
     ghost use Rattle.std.specs.FinMap.Entries.{is_sorted, put, where_key};
     ghost use Rattle.fuxi_terms.specs.Keys.{key_cmp, spot_cmp};
     ghost use Rattle.fuxi_terms.specs.Counts.{AreCounts, count};
     ghost use Rattle.fuxi_terms.specs.TallyKeys.{credited_key, greatest_demand, is_back};
     ghost use Rattle.fuxi_terms.specs.declared.Key.{Key};
-    ghost use Rattle.written_net.specs.Ledgers.{tally_ledger};
-    ghost use Rattle.written_roles.specs.MasterSteps.{counted};
+    ghost use Rattle.spec_net.specs.Ledgers.{tally_ledger};
+    ghost use Rattle.spec_roles.specs.MasterSteps.{counted};
     ghost use Rattle.std.specs.List.{AllByRecursion};
     ghost use Rattle.fuxi_terms.specs.Vectors.{at_place};
     ghost use Rattle.fuxi_terms.specs.Rows.{row_total};
@@ -86,7 +86,7 @@ impl Allotment {
     {
         let table = GrantTable::start(alloc, cluster)?;
         let placer = Placer::start(alloc, cluster)?;
-        let _cluster = table.cluster();
+        table.is_sound();
         Ok(Allotment {
             table,
             placer,
@@ -115,7 +115,7 @@ impl Allotment {
         let (mut table, mut placer) = (table, placer);
         table.admit(alloc, job)?;
         placer.admit(alloc, job)?;
-        let _sound = table.cluster();
+        table.is_sound();
         Ok(Allotment {
             table,
             placer,
@@ -152,7 +152,10 @@ impl Allotment {
         ensures idle { AsksNoMore (asks_seen self.old.placer.seen) (asks_seen self.new.placer.seen) app.0 → self.new.placer.idle ≡ self.old.placer.idle }
     {
         place_pass::law::levels();
-        self.placer.asked(&self.table, app, demand, changes);
+        match changes {
+            Some(changes) => self.placer.asked_changes(&self.table, app, demand, changes),
+            None => self.placer.asked(&self.table, app, demand),
+        }
     }
 
     /// So many grants fewer. Where the pairs of the line have something out the line stays as it is, and where the
@@ -174,7 +177,7 @@ impl Allotment {
         ensures table { OnOk result (self.new.table ≡ record self.old.table { entries = without_count self.old.table.entries (spot app.0 unit.0 machine.0) count }) }
         ensures takes { OnOk result (OnlyTakes self.old self.new) }
     {
-        let _before = self.table.cluster();
+        self.table.is_sound();
         if count == 0 {
             return Ok(());
         }
@@ -183,7 +186,7 @@ impl Allotment {
         self.touched.push(Pick { app, unit, machine })?;
         self.table.take(app, unit, machine, count);
         self.placer.changed(&self.table, app, unit, machine);
-        let _after = self.table.cluster();
+        self.table.is_sound();
         Ok(())
     }
 
@@ -206,7 +209,7 @@ impl Allotment {
     fn numbers(&self) -> u32
         ensures { (a : ℕ) → 0 < unit_count (as_known self.now.table.jobs) a → a < result }
     {
-        let _sound = self.table.cluster();
+        self.table.is_sound();
         match self.table.jobs().checked_sub(1) {
             Some(last) => self.table.job(last).app().0 + 1,
             None => 0,
@@ -252,7 +255,7 @@ impl Allotment {
         if !self.is_there(app, &key) {
             return Ok(false);
         }
-        let _sound = self.table.cluster();
+        self.table.is_sound();
         if back <= credited {
             return Ok(false);
         }
@@ -327,11 +330,11 @@ impl Allotment {
         ensures table { OnOk result (self.new.table ≡ record self.old.table { entries = where_key spot_cmp (λ s. not (nat_eq s.machine machine.0)) self.old.table.entries }) }
         ensures takes { OnOk result (OnlyTakes self.old self.new) }
     {
-        let _before = self.table.cluster();
+        self.table.is_sound();
         for number in 0..self.numbers() {
             self.clear_units(AppNo(number), machine)?;
         }
-        let _after = self.table.cluster();
+        self.table.is_sound();
         Ok(())
     }
 
@@ -348,7 +351,7 @@ impl Allotment {
         for number in 0..machines {
             self.clear_units(app, MachineNo(number))?;
         }
-        let _after = self.table.cluster();
+        self.table.is_sound();
         Ok(())
     }
 
@@ -440,7 +443,7 @@ impl Allotment {
         self.table.add(pick.app, pick.unit, pick.machine, count);
         self.placer
             .changed(&self.table, pick.app, pick.unit, pick.machine);
-        let _after = self.table.cluster();
+        self.table.is_sound();
         Ok(())
     }
 
@@ -454,7 +457,7 @@ impl Allotment {
         ensures { OnOk result (AddsRow machine.0 kept.now self.old self.new) }
     {
         grant_table::law::set_numbers();
-        let _sound = self.table.cluster();
+        self.table.is_sound();
         for index in 0..kept.len() {
             let entry = kept.at(index);
             let pick = Pick {
@@ -505,7 +508,7 @@ impl Allotment {
     {
         crate::law::lines_alike();
         preempt::law::taking();
-        let _sound = self.table.cluster();
+        self.table.is_sound();
         let pick = plan.pick;
         self.take_victims(pick.machine, &plan.victims)?;
         self.add(pick, 1)?;

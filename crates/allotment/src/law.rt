@@ -3,11 +3,11 @@
 ghost use Rattle.std.specs.Prelude.{◌≡◌, ℕ, List};
 ghost use Rattle.fuxi_terms.specs.Cluster.{ClusterRecord};
 ghost use Rattle.fuxi_terms.specs.Jobs.{KnownJob, job_numbers};
-ghost use Rattle.written_roles.specs.HardState.{with_ended};
+ghost use Rattle.spec_roles.specs.HardState.{with_ended};
 ghost use Rattle.allotment.specs.Allotted.{AllotmentRecord, Allots};
-ghost use Rattle.written_roles.specs.Masters.{Master, asked};
+ghost use Rattle.spec_roles.specs.Masters.{Master, asked};
 ghost use Rattle.allotment.specs.PlacingReads.{record_of};
-ghost use Rattle.written_roles.specs.Placing.{line_after, line_up};
+ghost use Rattle.spec_roles.specs.Placing.{line_after, line_up};
 
 /// A line is brought up to date alike whether the units with nothing out have left it before or not. So it plays no
 /// part that they leave it at once when a plan is carried out.

@@ -2,8 +2,8 @@
 
 ghost use Rattle.std.specs.Prelude.{◌≡◌, ◌<◌, true, Some, length, map, OnOk};
 ghost use Rattle.fuxi_terms.specs.Cluster.{ClusterRecord};
-ghost use Rattle.written_roles.specs.Masters.{Master, level_of};
-ghost use Rattle.written_roles.specs.Placing.{first_in, placeable_in, settled};
+ghost use Rattle.spec_roles.specs.Masters.{Master, level_of};
+ghost use Rattle.spec_roles.specs.Placing.{first_in, placeable_in, settled};
 ghost use Rattle.grant_table.specs.GrantTables.{IsSound};
 ghost use Rattle.place_pass.specs.Best.{spot_of};
 ghost use Rattle.place_pass.specs.Placers.{AreLevel, IsLevelWith, IsUpToDate, IsGrantable, IsSetFrom, asks_seen, board_with, job_seen, told_of, units_seen};
@@ -41,7 +41,7 @@ pub fn settle<L: Ledger>(
     ensures same_table { placer.old.idle ≡ true → table.new ≡ table.old }
     ensures same_placer { placer.old.idle ≡ true → told_of placer.new ≡ told_of placer.old }
 {
-    written_roles::law::settling();
+    spec_roles::law::settling();
     while let Some(pick) = placer.next(table, steps) {
         grant(table, placer, steps, pick);
         picks.push(pick)?;
@@ -65,7 +65,7 @@ fn repeats<L: Ledger>(
     ensures grantable { result ≡ true → IsGrantable table.now (spot_of pick) }
     ensures sound { IsSound table.now }
 {
-    let _sound = table.cluster();
+    table.is_sound();
     if placer.level(table, pick) != level {
         return false;
     }
@@ -96,5 +96,5 @@ fn grant<L: Ledger>(table: &mut GrantTable, placer: &mut Placer, steps: &mut Ste
         table.grant(pick.app, pick.unit, pick.machine);
     }
     placer.changed(table, pick.app, pick.unit, pick.machine);
-    let _sound = table.cluster();
+    table.is_sound();
 }

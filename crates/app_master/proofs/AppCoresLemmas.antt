@@ -14,14 +14,14 @@ use Rattle.party_ledgers.specs.PacketHeaders.{header_of}
 use Rattle.party_ledgers.specs.declared.header.Header.{Header}
 use Rattle.party_ledgers.specs.declared.packets.Heard.{Heard}
 use Rattle.party_ledgers.specs.declared.packets.Packet.{Packet}
-use Rattle.written_net.specs.Net.{same_id}
-use Rattle.written_net.specs.Channels.{app_id, is_master}
-use Rattle.written_net.specs.Ledgers.{Ledger}
-use Rattle.written_net.specs.Sides.{HeardSide, hears_side, shown, appended}
-use Rattle.written_roles.specs.Apps.{AppRole, app_party, app_told, no_excess, joined_demand, names, usable_of, carried_in, carry_of}
-use Rattle.core_side.specs.Bodies.{tally_of}
-use Rattle.core_side.specs.Parcels.{packet_of, parcel_is}
-use Rattle.core_side.specs.CoreSides.{HearsAlike as SideHears}
+use Rattle.spec_net.specs.Net.{same_id}
+use Rattle.spec_net.specs.Channels.{app_id, is_master}
+use Rattle.spec_net.specs.Ledgers.{Ledger}
+use Rattle.spec_net.specs.Sides.{HeardSide, hears_side, shown, appended}
+use Rattle.spec_roles.specs.Apps.{AppRole, app_party, app_told, no_excess, joined_demand, names, usable_of, carried_in, carry_of}
+use Rattle.peer_channel.specs.Bodies.{tally_of}
+use Rattle.peer_channel.specs.Parcels.{packet_of, parcel_is}
+use Rattle.peer_channel.specs.CoreSides.{HearsAlike as SideHears}
 use Rattle.app_master.specs.Usable.{carried_at, is_named, usable_in}
 use Rattle.app_master.specs.AppCores.{AppCore, StandsFor, Up, IsUp, patched_demand}
 use Rattle.app_master.specs.AppPackets.{is_between, is_for, HearsAlike}

@@ -9,9 +9,9 @@ use Rattle.fuxi_terms.specs.Lists.{below}
 use Rattle.fuxi_terms.specs.Numbers.{has_number}
 use Rattle.fuxi_terms.specs.Vectors.{at_place}
 use Rattle.fuxi_terms.proofs.ByPlace.{at_place-get_or}
-use Rattle.written_net.specs.Net.{Link}
-use Rattle.written_net.specs.Ledgers.{Ledger}
-use Rattle.written_roles.specs.Apps.{Carried, names, usable_of, carried_in, carried_one, carry_of}
+use Rattle.spec_net.specs.Net.{Link}
+use Rattle.spec_net.specs.Ledgers.{Ledger}
+use Rattle.spec_roles.specs.Apps.{Carried, names, usable_of, carried_in, carried_one, carry_of}
 use Rattle.app_master.proofs.Counted.{is_below, mapped_below}
 
 -- what is found for a machine

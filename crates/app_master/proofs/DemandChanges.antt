@@ -14,9 +14,9 @@ use Rattle.fuxi_terms.specs.TallyKeys.{greatest_demand, back_what}
 use Rattle.fuxi_terms.proofs.Booleans.{nat_itself}
 use Rattle.fuxi_terms.proofs.CountsLemmas.{count_le, is_key, same_counts, counts-set_count, count-set_count}
 use Rattle.fuxi_terms.proofs.KeyOrders.{key_total, same_key}
-use Rattle.written_net.specs.Ledgers.{Ledger, tally_ledger}
-use Rattle.written_roles.specs.Apps.{changed_demand, joined_demand}
-use Rattle.core_side.specs.Bodies.{tally_of}
+use Rattle.spec_net.specs.Ledgers.{Ledger, tally_ledger}
+use Rattle.spec_roles.specs.Apps.{changed_demand, joined_demand}
+use Rattle.peer_channel.specs.Bodies.{tally_of}
 use Rattle.app_master.specs.AppCores.{patched_demand}
 use Rattle.app_master.specs.Asking.{IsMove}
 

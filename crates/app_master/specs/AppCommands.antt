@@ -1,7 +1,7 @@
 -- What the commands of an application answer.
 use Rattle.std.specs.Prelude.{◌≡◌, Result, Ok, Err, IsOk}
-use Rattle.written_roles.specs.Apps.{AppRole, AppCommand, commands_alone}
-use Rattle.written_roles.specs.Refusals.{Refusal, NoUnit, NoMachine, NoRack, WantRange, NotUsable, BackRange}
+use Rattle.spec_roles.specs.Apps.{AppRole, AppCommand, commands_alone}
+use Rattle.spec_roles.specs.Refusals.{Refusal, NoUnit, NoMachine, NoRack, WantRange, NotUsable, BackRange}
 use Rattle.fuxi_terms.specs.Limits.{greatest_count}
 use Rattle.app_master.specs.declared.fault.AppFault.{AppFault}
 use Rattle.app_master.specs.declared.fault.AppFault.TheVariants.{NoUnit as SaysNoUnit, NoMachine as SaysNoMachine, NoRack as SaysNoRack, WantRange as SaysWantRange, NotUsable as SaysNotUsable, BackRange as SaysBackRange, OutOfMemory as WantOfMemory}

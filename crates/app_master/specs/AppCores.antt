@@ -9,10 +9,10 @@ use Rattle.fuxi_terms.specs.declared.answers.LedgerFault.{LedgerFault}
 use Rattle.fuxi_terms.specs.declared.answers.LedgerFault.TheVariants.{Below, TooGreat}
 use Rattle.ledger_law.specs.Shapes.{IsTally}
 use Rattle.full_sync.specs.Turns.{Endpoint}
-use Rattle.written_net.specs.Sides.{Side}
-use Rattle.written_roles.specs.Apps.{AppRole, carried_in}
-use Rattle.core_side.specs.Bodies.{tally_of}
-use Rattle.core_side.specs.CoreSides.{IsSide}
+use Rattle.spec_net.specs.Sides.{Side}
+use Rattle.spec_roles.specs.Apps.{AppRole, carried_in}
+use Rattle.peer_channel.specs.Bodies.{tally_of}
+use Rattle.peer_channel.specs.CoreSides.{IsSide}
 use Rattle.app_master.specs.Usable.{carried_at}
 
 abbrev pub Up : Type 0

@@ -1,12 +1,12 @@
 -- What an application hears and sends.
 use Rattle.std.specs.Prelude.{◌≡◌, ℕ, Bool, ◌&&◌, List, map}
-use Rattle.written_net.specs.Net.{same_id}
-use Rattle.written_net.specs.Channels.{app_id, is_master}
-use Rattle.written_roles.specs.Apps.{AppRole, app_hears_alone, app_turn}
+use Rattle.spec_net.specs.Net.{same_id}
+use Rattle.spec_net.specs.Channels.{app_id, is_master}
+use Rattle.spec_roles.specs.Apps.{AppRole, app_hears_alone, app_turn}
 use Rattle.schedule_unit.specs.declared.party.Party.{Party}
 use Rattle.party_ledgers.specs.declared.packets.Packet.{Packet}
 use Rattle.party_ledgers.specs.declared.packets.Heard.{Heard}
-use Rattle.core_side.specs.Parcels.{party_of, parcel_is}
+use Rattle.peer_channel.specs.Parcels.{party_of, parcel_is}
 use Rattle.app_master.specs.AppCores.{AppCore, StandsFor}
 
 -- what one party sends to another is for the application of this job, of a master

@@ -3,8 +3,8 @@ use Rattle.std.specs.Prelude.{◌≡◌, ℕ, ◌<◌, ◌≤◌, Bool, List, []
 use Rattle.std.proofs.Common.{get_or}
 use Rattle.fuxi_terms.specs.Tallies.{TallyRecord}
 use Rattle.schedule_unit.specs.declared.party.MachineNo.{MachineNo}
-use Rattle.written_roles.specs.Apps.{names, usable_of}
-use Rattle.core_side.specs.Bodies.{tally_of}
+use Rattle.spec_roles.specs.Apps.{names, usable_of}
+use Rattle.peer_channel.specs.Bodies.{tally_of}
 
 -- of grants, the own demand and the boot: whether the grants name a machine, and what is held of a unit on a machine that they name
 abbrev pub is_named : TallyRecord → ℕ → Bool

@@ -3,15 +3,15 @@
 ghost use Rattle.std.specs.Prelude.{◌≡◌, ◌+◌, ◌<◌, ◌≤◌, ◌^◌, ℕ, false, nat_eq, max, unsigned_abs, Some, IfOk, OnOk, OnErr};
 ghost use Rattle.fuxi_terms.specs.Counts.{moved, is_no_change};
 ghost use Rattle.fuxi_terms.specs.TallyKeys.{greatest_demand};
-ghost use Rattle.written_net.specs.Sides.{Side as WrittenSide, shown, appended};
-ghost use Rattle.written_roles.specs.Apps.{changed_demand, joined_demand};
+ghost use Rattle.spec_net.specs.Sides.{Side as WrittenSide, shown, appended};
+ghost use Rattle.spec_roles.specs.Apps.{changed_demand, joined_demand};
 ghost use Rattle.app_master.specs.AppCores.{IsUp};
 ghost use Rattle.app_master.specs.Asking.{IsMove};
 
-use core_side::Side;
 use fuxi_terms::OutOfMemory;
 use ledger_law::{Change, Key};
 use party_ledgers::{Demand, Grants};
+use peer_channel::Side;
 use std::alloc::Global;
 
 /// The demand has this number at the key from now on. Where it has it already nothing is posted.

@@ -6,8 +6,8 @@ use Rattle.std.proofs.lemmas.Bool.{cases_lt}
 use Rattle.std.proofs.lemmas.Bool.Decides.{nat_tests}
 use Rattle.fuxi_terms.proofs.Alls.{all_more}
 use Rattle.schedule_unit.specs.declared.party.MachineNo.{MachineNo}
-use Rattle.written_roles.specs.ServedInOrder.{AreOrdered}
-use Rattle.written_roles.specs.Votes.{VotesRecord, IsNotBehind, votes_of}
+use Rattle.spec_roles.specs.ServedInOrder.{AreOrdered}
+use Rattle.spec_roles.specs.Votes.{VotesRecord, IsNotBehind, votes_of}
 use Rattle.bad_nodes.specs.Ranks.{number_of}
 
 -- what a test that finds nothing to exchange says

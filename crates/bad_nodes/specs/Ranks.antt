@@ -1,7 +1,7 @@
 -- How votes are laid out. No public clause but for the number of a machine cites this module.
 use Rattle.std.specs.Prelude.{◌≡◌, ℕ, ◌≤◌, Bool, List, length, All}
 use Rattle.schedule_unit.specs.declared.party.MachineNo.{MachineNo}
-use Rattle.written_roles.specs.Votes.{most_votes}
+use Rattle.spec_roles.specs.Votes.{most_votes}
 
 abbrev pub number_of : MachineNo → ℕ
 number_of m = m.0

@@ -2,16 +2,16 @@
 
 ghost use Rattle.std.specs.Prelude.{◌≡◌, ◌+◌, ◌-◌, ◌<◌, ◌≤◌, false, true, filter, length, map, replicate, set, All, IfOk};
 ghost use Rattle.fuxi_terms.specs.Lists.{below};
-ghost use Rattle.written_roles.specs.Votes.{cap, is_marked, judged, most_votes, number_shut, votes_of};
+ghost use Rattle.spec_roles.specs.Votes.{cap, is_marked, judged, most_votes, number_shut, votes_of};
 ghost use Rattle.bad_nodes.specs.Ranks.{number_of};
 
 use cluster_desc::Cluster;
 use fuxi_terms::OutOfMemory;
 use schedule_unit::MachineNo;
+use spec_roles::law;
 use std::alloc::Global;
 use std::cmp::Reverse;
 use std::marker::Model;
-use written_roles::law;
 
 /// How many jobs mark each machine of a cluster as bad, at most 256, and which machines count as banned. It
 /// is seen as a record of both, by the numbers of the machines.
@@ -22,7 +22,7 @@ pub struct Votes {
 }
 
 impl Model for Votes {
-    ghost use Rattle.written_roles.specs.Votes.{VotesRecord};
+    ghost use Rattle.spec_roles.specs.Votes.{VotesRecord};
 
     ghost Value = { VotesRecord };
 

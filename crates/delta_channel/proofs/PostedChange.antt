@@ -1,5 +1,5 @@
 -- A change that is posted: what the sender stands for, and what it keeps, where it keeps the latest changes alone.
-use Rattle.std.proofs.Common.{◌≡◌, ◌⊎◌, ◌≤◌, ℕ, zero, suc, ◌+◌, ◌-◌, ◌<◌, List, [], ◌∷◌, ◌++◌, length, length-append, length-drop, drop, Some, Result, Ok, slice_get, refl, sym, ◌∙◌, ap, subst, arith, inl, inr}
+use Rattle.std.proofs.Common.{◌≡◌, ℕ, zero, suc, ◌+◌, ◌-◌, ◌<◌, List, [], ◌∷◌, ◌++◌, length, length-append, length-drop, drop, Some, Result, Ok, slice_get, refl, sym, ◌∙◌, ap, subst, arith, inl, inr}
 use Rattle.std.proofs.lemmas.Bool.{cases_lt}
 use Rattle.std.proofs.lemmas.List.{drop-append-le, drop-drop}
 use Rattle.std.proofs.lemmas.Option.{slice_get_within}
@@ -73,21 +73,14 @@ module _ {V D : Type 0} (nothing : V) (patched : V → D → Result V LedgerFaul
   }
 
   -- the change is kept, and the oldest goes where there is no room
-  pub posted : (s : Sending V D) (change : D) (v : V) (kept : List D) (capacity : ℕ) → patched s.present change ≡ Ok v → capacity ≤ kept_changes → (capacity ≡ kept_changes) ⊎ (length s.kept < capacity) → kept ≡ latest capacity (s.kept ++ change ∷ [])
+  pub posted : (s : Sending V D) (change : D) (v : V) (kept : List D) (capacity : ℕ) → patched s.present change ≡ Ok v → capacity ≡ kept_changes → kept ≡ latest capacity (s.kept ++ change ∷ [])
       → IsPosted nothing patched change s (record { own = s.own; last = s.last + 1; present = v; kept = kept })
-  posted s change v kept capacity made most room is = record {
+  posted s change v kept capacity made room is = record {
     made = made;
     next = refl;
     own = refl;
-    keeps = λ changes keeps. is ∙ all_room room ∙ ap (λ ds. latest kept_changes (ds ++ change ∷ [])) keeps ∙ latest_more kept_changes changes change;
+    keeps = λ changes keeps. is ∙ ap (λ n. latest n (s.kept ++ change ∷ [])) room ∙ ap (λ ds. latest kept_changes (ds ++ change ∷ [])) keeps ∙ latest_more kept_changes changes change;
     stands = λ h stands.
         let all : Sending V D = record { own = s.own; last = s.last + 1; present = v; kept = s.kept ++ change ∷ [] } in
         subst (λ ds. StandsFor nothing patched (record { own = s.own; last = s.last + 1; present = v; kept = ds }) (h ++ v ∷ [])) (sym is) (fewer all (length (s.kept ++ change ∷ []) - capacity) (h ++ v ∷ []) (further s change v h made stands));
   }
-    where
-      all_room : (capacity ≡ kept_changes) ⊎ (length s.kept < capacity) → latest capacity (s.kept ++ change ∷ []) ≡ latest kept_changes (s.kept ++ change ∷ [])
-      all_room (inl same) = ap (λ n. latest n (s.kept ++ change ∷ [])) same
-      all_room (inr less) =
-          let long = length-append s.kept (change ∷ []) in
-          let none : length (s.kept ++ change ∷ []) - capacity ≡ length (s.kept ++ change ∷ []) - kept_changes = omega (arith, long, less, most) in
-          ap (λ k. drop k (s.kept ++ change ∷ [])) none

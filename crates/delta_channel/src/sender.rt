@@ -1,4 +1,4 @@
-ghost use Rattle.std.specs.Prelude.{◌≡◌, ◌+◌, ◌-◌, ◌<◌, ◌≤◌, ◌^◌, ◌⊎◌, List, [], ◌∷◌, length, min, IfOk, OnOk, slice_get, Some};
+ghost use Rattle.std.specs.Prelude.{◌≡◌, ◌+◌, ◌-◌, ◌<◌, ◌≤◌, ◌^◌, List, [], ◌∷◌, length, min, IfOk, slice_get, Some};
 ghost use Rattle.delta_channel.specs.Standing.{StandsFor, IsChangeAt};
 ghost use Rattle.fuxi_terms.specs.Limits.{kept_changes};
 ghost use Rattle.delta_channel.specs.Calls.{new_sending, Posts};
@@ -7,11 +7,7 @@ use circular_buffer::HeapCircularBuffer;
 use fuxi_terms::limits::KEPT_CHANGES;
 use ledger_law::{Ledger, LedgerFault, OutOfMemory};
 use std::alloc::Global;
-use std::cmp::min;
 use std::marker::Model;
-
-/// For so many changes there is room at first. Most parties send few.
-const FIRST_CHANGES: usize = 16;
 
 /// The sending end of a channel: a ledger, the number of changes that led to it, and the last 256 of them.
 ///
@@ -25,7 +21,7 @@ pub struct Sender<L: Ledger> {
 }
 
 impl<L: Ledger> Model for Sender<L> {
-    ghost use Rattle.std.specs.Prelude.{◌≡◌, ◌≤◌, min, length};
+    ghost use Rattle.std.specs.Prelude.{◌≡◌, min, length};
     ghost use Rattle.fuxi_terms.specs.Limits.{kept_changes};
     ghost use Rattle.delta_channel.specs.Standing.{Sending};
 
@@ -33,29 +29,12 @@ impl<L: Ledger> Model for Sender<L> {
 
     ghost view = { λ s. record { own = s.own; last = s.last; present = s.present; kept = s.kept.items } };
 
-    ghost invariant = { λ s. (s.kept.capacity ≤ kept_changes) × (length s.kept.items ≡ min kept_changes s.last) };
-}
-
-// Room for one change more, unless as many are kept as there may be.
-fn make_room<D>(kept: &mut HeapCircularBuffer<D>) -> Result<(), OutOfMemory>
-    requires most { kept.old.capacity ≤ kept_changes }
-    ensures items { kept.new.items ≡ kept.old.items }
-    ensures most { kept.new.capacity ≤ kept_changes }
-    ensures room { OnOk result ((kept.new.capacity ≡ kept_changes) ⊎ (length kept.old.items < kept.new.capacity)) }
-{
-    let len = kept.len();
-    if len < kept.capacity() || len >= KEPT_CHANGES {
-        return Ok(());
-    }
-    match kept.resize(min(2 * len + FIRST_CHANGES, KEPT_CHANGES)) {
-        Ok(()) => Ok(()),
-        Err(_) => Err(OutOfMemory),
-    }
+    ghost invariant = { λ s. (s.kept.capacity ≡ kept_changes) × (length s.kept.items ≡ min kept_changes s.last) };
 }
 
 impl<L: Ledger> Sender<L> {
-    /// A sender of incarnation `own`, whose history is the ledger with no entry alone. It takes room for the first
-    /// changes that it will keep. Where memory is refused there is no sender.
+    /// A sender of incarnation `own`, whose history is the ledger with no entry alone. It takes the room for
+    /// the changes that it will keep. Where memory is refused there is no sender.
     pub fn start(alloc: Global, own: u64) -> Result<Sender<L>, OutOfMemory>
         ensures value { IfOk result (λ s. s ≡ new_sending L.nothing own) }
         ensures stands { IfOk result (λ s. StandsFor L.nothing L.patched s (L.nothing ∷ [])) }
@@ -64,20 +43,18 @@ impl<L: Ledger> Sender<L> {
             own,
             last: 0,
             present: L::empty(alloc),
-            kept: HeapCircularBuffer::with_capacity(alloc, FIRST_CHANGES)?,
+            kept: HeapCircularBuffer::with_capacity(alloc, KEPT_CHANGES)?,
         })
     }
 
     /// Makes a change to the ledger and keeps it, where the last index is below 2^62. Answers the new last index.
-    /// Where 256 changes are kept, the oldest is freed. It takes memory for the change to the ledger, and where there is
-    /// no room to keep one more.
+    /// Where 256 changes are kept, the oldest is freed. It takes memory for the change to the ledger alone.
     ///
     /// The fault is the ledger's refusal of the change, or want of memory. It leaves all as it was.
     pub fn post(&mut self, alloc: Global, change: L::Delta) -> Result<u64, LedgerFault>
         requires { self.old.last < 2 ^ 62 }
         ensures { Posts L.nothing L.patched change self.old result self.new }
     {
-        make_room(&mut self.kept)?;
         self.present.apply(alloc, &change)?;
         self.kept.push_back(change);
         self.last += 1;

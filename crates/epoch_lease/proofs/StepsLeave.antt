@@ -4,8 +4,8 @@ use Rattle.std.specs.List.{AllByRecursion}
 use Rattle.std.proofs.lemmas.Bool.Decides.{nat_tests}
 use Rattle.fuxi_io.specs.Disks.{Moment, Told, Leaves, LeavesAlways, WhereTold}
 use Rattle.fuxi_terms.specs.Limits.{most_records}
-use Rattle.written_roles.specs.HardState.{HardState, Raise, hard_step, raised}
-use Rattle.written_roles.specs.Refusals.{Refusal, NotRising, HardFull, first_refusal}
+use Rattle.spec_roles.specs.HardState.{HardState, Raise, hard_step, raised}
+use Rattle.spec_roles.specs.Refusals.{Refusal, NotRising, HardFull, first_refusal}
 use Rattle.hard_state.specs.HardFiles.{Kept, IsAtRest, IsBeforeOrAfter, WritesStep, records_of}
 use Rattle.hard_state.specs.declared.fault.HardFault.{HardFault}
 use Rattle.hard_state.specs.declared.fault.HardFault.TheVariants.{DiskFault as NoDisk}

@@ -1,7 +1,7 @@
 -- A lease with its checkpoint, and what a file stands for.
 use Rattle.std.specs.Prelude.{◌≡◌, ◌⊎◌, ℕ, ◌≤◌, List, Option, Result, Ok, Err}
 use Rattle.fuxi_io.specs.Disks.{Moment, Told, Leaves, LeavesAlways}
-use Rattle.written_roles.specs.HardState.{HardState}
+use Rattle.spec_roles.specs.HardState.{HardState}
 use Rattle.hard_state.specs.HardFiles.{Kept, IsAtRest, records_of}
 use Rattle.epoch_lease.specs.declared.event.LeaseOut.{LeaseOut}
 use Rattle.epoch_lease.specs.declared.event.LeaseFault.{LeaseFault}

@@ -3,7 +3,7 @@ use Rattle.std.specs.Prelude.{ℕ, cond, List, [], filter}
 use Rattle.fuxi_terms.specs.Keys.{RowKey}
 use Rattle.fuxi_terms.specs.Jobs.{KnownJob}
 use Rattle.fuxi_terms.specs.Numbers.{has_number}
-use Rattle.written_roles.specs.MasterSteps.{is_kept}
+use Rattle.spec_roles.specs.MasterSteps.{is_kept}
 use Rattle.hard_state.specs.Knowledge.{Knowledge}
 
 abbrev pub kept_entries : List KnownJob → List (RowKey × ℕ) → List (RowKey × ℕ)

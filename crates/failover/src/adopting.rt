@@ -9,7 +9,7 @@ ghost use Rattle.fuxi_terms.specs.Keys.{row_cmp};
 ghost use Rattle.fuxi_terms.specs.Rows.{IsRow, row_key, row_total};
 ghost use Rattle.fuxi_terms.specs.Vectors.{fits};
 ghost use Rattle.party_ledgers.specs.Entries.{entry_of};
-ghost use Rattle.written_roles.specs.MasterSteps.{is_kept};
+ghost use Rattle.spec_roles.specs.MasterSteps.{is_kept};
 ghost use Rattle.failover.specs.KeptReports.{kept_entries, kept_of};
 
 use fuxi_terms::OutOfMemory;

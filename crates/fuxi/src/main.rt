@@ -2,8 +2,7 @@
 #![tactic(auto)]
 
 use fuxi_command::{exit_of, file_of, run, words_of};
-use fuxi_io::{FileDisk, StdSink, StdSource};
-use node_door::TcpDoor;
+use fuxi_io::{FileDisk, StdSink, StdSource, TcpDoor};
 use std::env;
 use std::fs::File;
 use std::os::fd::AsRawFd;

@@ -4,10 +4,10 @@ use Rattle.std.specs.Io.KnownBytes.{Appends}
 use Rattle.fuxi_io.specs.Disks.{Told}
 use Rattle.fuxi_io.specs.declared.status.Status.{Status}
 use Rattle.fuxi_io.specs.declared.status.Status.TheVariants.{Done}
-use Rattle.written_roles.specs.HardState.{HardState}
+use Rattle.spec_roles.specs.HardState.{HardState}
 use Rattle.hard_state.specs.HardFiles.{records_of}
-use Rattle.lease_run.specs.LeaseEnds.{LeaseEnded}
-use Rattle.lease_run.specs.LeaseRuns.{text_of}
+use Rattle.epoch_lease.specs.LeaseEnds.{LeaseEnded}
+use Rattle.epoch_lease.specs.LeaseRuns.{text_of}
 
 same_value : (file : List ℕ) (a b : HardState) → records_of file ≡ Ok a → records_of file ≡ Ok b → a ≡ b
 same_value file a b is_a is_b = cc

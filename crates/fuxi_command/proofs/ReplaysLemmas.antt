@@ -7,8 +7,8 @@ use Rattle.fuxi_io.specs.declared.status.LimitOf.{LimitOf}
 use Rattle.fuxi_io.specs.declared.status.Status.{Status}
 use Rattle.fuxi_io.specs.declared.status.Status.TheVariants.{Done, Usage, BadInput, ReadFault, WriteFault, Limit, OutOfMemory, DiskFault, StaleEpoch, DamagedCheckpoint}
 use Rattle.input_lines.specs.LineRuns.{AtEnd, AtBadLine, AtLimit}
-use Rattle.schedule_run.specs.ScheduleRuns.{run_of, read_from, pieces, Ended}
-use Rattle.schedule_run.specs.Told.{IsText, IsTextBefore, IsFrontText, Writes}
+use Rattle.schedule_replay.specs.ScheduleRuns.{run_of, read_from, pieces, Ended}
+use Rattle.schedule_replay.specs.Told.{IsText, IsTextBefore, IsFrontText, Writes}
 
 -- a reader that has read nothing has all of it before it
 pub begun : (input : Option (List ℕ)) (P : List ℕ → Type 0) → IfSome (prepend_known [] input) P → IfSome input P

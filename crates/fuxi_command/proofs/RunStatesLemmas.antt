@@ -4,19 +4,19 @@ use Rattle.std.specs.List.{AllByRecursion}
 use Rattle.std.proofs.lemmas.List.{take-append-drop}
 use Rattle.fuxi_terms.proofs.Alls.{all_front}
 use Rattle.fuxi_terms.specs.Cluster.{ClusterRecord}
-use Rattle.written_roles.specs.Masters.{Master}
-use Rattle.written_roles.specs.Preemption.{Plan, plan_of}
-use Rattle.written_roles.specs.TakenByQuota.{AreTakenByQuota}
-use Rattle.written_world.specs.World.{World}
-use Rattle.written_world.specs.KeepsGrants.{AllAdopt, AllReport, AllStay}
-use Rattle.written_world.specs.Events.{Event}
-use Rattle.written_world.specs.Judging.{AllJudge}
-use Rattle.written_world.specs.EventRanges.{IsInput, is_from_line}
-use Rattle.written_world.specs.Runs.{run}
-use Rattle.written_world.specs.Safe.{Safe}
-use Rattle.written_calm.specs.CalmRounds.{CalmBringsQuiet}
-use Rattle.schedule_run.specs.Inputs.{Input}
-use Rattle.schedule_run.specs.Told.{LeadsTo}
+use Rattle.spec_roles.specs.Masters.{Master}
+use Rattle.spec_roles.specs.Preemption.{Plan, plan_of}
+use Rattle.spec_roles.specs.TakenByQuota.{AreTakenByQuota}
+use Rattle.spec_world.specs.World.{World}
+use Rattle.spec_world.specs.KeepsGrants.{AllAdopt, AllReport, AllStay}
+use Rattle.spec_world.specs.Events.{Event}
+use Rattle.spec_world.specs.Judging.{AllJudge}
+use Rattle.spec_world.specs.EventRanges.{IsInput, is_from_line}
+use Rattle.spec_world.specs.Runs.{run}
+use Rattle.spec_world.specs.Safe.{Safe}
+use Rattle.spec_progress.specs.CalmRounds.{CalmBringsQuiet}
+use Rattle.schedule_replay.specs.Inputs.{Input}
+use Rattle.schedule_replay.specs.Told.{LeadsTo}
 use Rattle.fuxi_command.specs.RunStates.{AllCountOnce, AllKeepGrants, AllTakeByQuota}
 
 pub all_count_once : (w : World) → Safe w → AllCountOnce w

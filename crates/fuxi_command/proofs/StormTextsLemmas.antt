@@ -6,8 +6,8 @@ use Rattle.fuxi_io.specs.declared.status.Status.{Status}
 use Rattle.fuxi_io.specs.declared.status.Status.TheVariants.{Done, Usage, BadInput, ReadFault, WriteFault, Limit, OutOfMemory, DiskFault, StaleEpoch, DamagedCheckpoint}
 use Rattle.storm_run.specs.StormRuns.{IsLimit, StormEnded}
 use Rattle.storm_run.specs.Summaries.{storm_of}
-use Rattle.written_storm.specs.StormEnds.{EndsQuiet}
-use Rattle.schedule_run.specs.Told.{Writes}
+use Rattle.storm_run.specs.StormEnds.{EndsQuiet}
+use Rattle.schedule_replay.specs.Told.{Writes}
 
 no_limit : (seed steps : ℕ) (text : List ℕ) (what : LimitOf) (kept : ℕ) → storm_of seed steps ≡ Ok text → IsLimit (storm_of seed steps) what kept → ⊥
 no_limit seed steps text Lines kept is limit = limit

@@ -3,8 +3,8 @@ use Rattle.std.proofs.Common.{◌≡◌, ℕ, List, Option, None, Some, IfSome, 
 use Rattle.std.specs.Io.KnownBytes.{Appends}
 use Rattle.fuxi_io.specs.declared.status.Status.{Status}
 use Rattle.fuxi_io.specs.declared.status.Status.TheVariants.{Done}
-use Rattle.written_work.specs.AgentWithApps.{empty_world}
-use Rattle.work_run.specs.WorkLineRuns.{Ended, run_from, text_of}
+use Rattle.work_plan.specs.AgentWithApps.{empty_world}
+use Rattle.work_plan.specs.WorkLineRuns.{Ended, run_from, text_of}
 
 by_end : (input left before after : Option (List ℕ)) → IfSome input (λ bytes. Ended (run_from 0 empty_world) bytes Done left before after) → IfSome input (λ bytes. Appends before after (text_of bytes))
 by_end None left before after ended = tt

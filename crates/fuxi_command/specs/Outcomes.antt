@@ -7,19 +7,19 @@ use Rattle.fuxi_io.specs.declared.status.LimitOf.TheVariants.{Lines}
 use Rattle.fuxi_io.specs.declared.status.Status.{Status}
 use Rattle.fuxi_io.specs.declared.status.Status.TheVariants.{Done, Usage, ReadFault, WriteFault, Limit, OutOfMemory, DiskFault, StaleEpoch, DamagedCheckpoint}
 use Rattle.fuxi_terms.specs.Limits.{most_lines}
-use Rattle.schedule_run.specs.ScheduleRuns.{read_from, Ended}
+use Rattle.schedule_replay.specs.ScheduleRuns.{read_from, Ended}
 use Rattle.storm_run.specs.StormRuns.{StormEnded}
 use Rattle.storm_run.specs.Summaries.{storm_of}
-use Rattle.written_roles.specs.HardState.{HardState}
+use Rattle.spec_roles.specs.HardState.{HardState}
 use Rattle.hard_state.specs.HardFiles.{KeepsDamaged, records_of}
-use Rattle.lease_run.specs.LeaseEnds.{LeaseEnded}
+use Rattle.epoch_lease.specs.LeaseEnds.{LeaseEnded}
 use Rattle.input_lines.specs.LineRuns.{AtEnd}
-use Rattle.lease_run.specs.LeaseRuns.{run_of}
-use Rattle.written_work.specs.AgentWithApps.{empty_world as empty_work}
-use Rattle.work_run.specs.WorkLineRuns.{Ended as WorkEnded, run_from as work_run_from, run_of as work_run_of}
+use Rattle.epoch_lease.specs.LeaseRuns.{run_of}
+use Rattle.work_plan.specs.AgentWithApps.{empty_world as empty_work}
+use Rattle.work_plan.specs.WorkLineRuns.{Ended as WorkEnded, run_from as work_run_from, run_of as work_run_of}
 use Rattle.fuxi_node.specs.declared.kind.NodeKind.{NodeKind}
 use Rattle.fuxi_node.specs.NodeInputs.{HasNoCluster, InputEnded, InputEndsBy, IsDiskless, LeavesDisk, MayStart, TellsDisk, ending_of, status_at}
-use Rattle.node_door.specs.Doors.{Told, WhereTold}
+use Rattle.fuxi_io.specs.Doors.{Told, WhereTold}
 use Rattle.fuxi_command.specs.CommandWords.{Lease, Node, Replay, Storm, Work, command_of, has_file, is_command, is_node}
 
 -- what an input has left, what an output took, what a disk and a door told, and how many calls of each failed

@@ -2,12 +2,12 @@
 use Rattle.std.specs.Prelude.{◌≡◌, ℕ, Some}
 use Rattle.std.specs.Ordering.{nat_cmp}
 use Rattle.std.specs.FinMap.Entries.{find}
-use Rattle.written_roles.specs.Masters.{Master}
-use Rattle.written_roles.specs.Preemption.{Plan, plan_of}
-use Rattle.written_roles.specs.TakenByQuota.{AreTakenByQuota}
-use Rattle.written_world.specs.World.{World, App}
-use Rattle.written_world.specs.KeepsGrants.{AllAdopt, AllReport, AllStay}
-use Rattle.written_world.specs.Safe.{CountsOnce}
+use Rattle.spec_roles.specs.Masters.{Master}
+use Rattle.spec_roles.specs.Preemption.{Plan, plan_of}
+use Rattle.spec_roles.specs.TakenByQuota.{AreTakenByQuota}
+use Rattle.spec_world.specs.World.{World, App}
+use Rattle.spec_world.specs.KeepsGrants.{AllAdopt, AllReport, AllStay}
+use Rattle.spec_world.specs.Safe.{CountsOnce}
 
 -- of each running application and each machine, what it holds there counts once
 pub record AllCountOnce (w : World) : Type 0 where

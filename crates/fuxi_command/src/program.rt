@@ -5,10 +5,10 @@ ghost use Rattle.std.specs.Io.KnownBytes.{Appends};
 ghost use Rattle.fuxi_io.specs.Disks.{Told};
 ghost use Rattle.fuxi_io.specs.Statuses.{code_of};
 ghost use Rattle.hard_state.specs.HardFiles.{records_of};
-ghost use Rattle.lease_run.specs.LeaseRuns.{text_of};
-ghost use Rattle.work_run.specs.WorkLineRuns.{text_of as work_text_of};
-ghost use Rattle.written_roles.specs.HardState.{HardState};
-ghost use Rattle.schedule_run.specs.Told.{IsText, Writes};
+ghost use Rattle.epoch_lease.specs.LeaseRuns.{text_of};
+ghost use Rattle.work_plan.specs.WorkLineRuns.{text_of as work_text_of};
+ghost use Rattle.spec_roles.specs.HardState.{HardState};
+ghost use Rattle.schedule_replay.specs.Told.{IsText, Writes};
 ghost use Rattle.fuxi_command.specs.CommandWords.{Lease, Replay, Work, command_of, file_of, HasWords, NoWords, WhyNoWords};
 ghost use Rattle.fuxi_io.specs.Reports.{TakesReport};
 ghost use Rattle.fuxi_command.specs.CommandReports.{report_line};
@@ -17,9 +17,8 @@ ghost use Rattle.fuxi_command.specs.Outcomes.{IsOutcome, seen};
 use crate::telling::report;
 use crate::top::fuxi;
 use crate::words::{Command, command_of};
-use fuxi_io::{Disk, Sink, Source, Status};
+use fuxi_io::{Disk, Door, Sink, Source, Status};
 use fuxi_node::NodeKind;
-use node_door::Door;
 use std::alloc::Global;
 use std::env::Args;
 use std::io;
@@ -103,7 +102,7 @@ pub fn run<S: Source, O: Sink, E: Sink, D: Disk, N: Door>(
     ensures text { IfOk words (λ words. command_of (map string_bytes words.items) ≡ Some Replay → result ≡ Status.Done → IfSome (S.left input.old) (λ bytes. Writes (IsText bytes) (O.took out.old) (O.took out.new))) }
     ensures lease_text { IfOk words (λ words. command_of (map string_bytes words.items) ≡ Some Lease → result ≡ Status.Done → (bytes : List ℕ) (t : Told) (value : HardState) → S.left input.old ≡ Some bytes → D.told disk.old ≡ Some t
         → records_of t.now.bytes ≡ Ok value → Appends (O.took out.old) (O.took out.new) (text_of value bytes)) }
-    ensures work_text { IfOk words (λ words. command_of (map string_bytes words.items) ≡ Some Work → result ≡ Status.Done → IfSome (S.left input.old) (λ bytes. Appends (O.took out.old) (O.took out.new) (work_text_of bytes))) }
+    ensures work_plan { IfOk words (λ words. command_of (map string_bytes words.items) ≡ Some Work → result ≡ Status.Done → IfSome (S.left input.old) (λ bytes. Appends (O.took out.old) (O.took out.new) (work_text_of bytes))) }
     ensures report { TakesReport (report_line result) (E.took err.old) (E.took err.new) (E.faults err.old) (E.faults err.new) }
 {
     match words {

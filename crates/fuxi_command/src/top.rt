@@ -2,18 +2,18 @@ ghost use Rattle.std.specs.Prelude.{◌≡◌, ◌≢◌, ◌⊎◌, ◌↔◌, 
 ghost use Rattle.std.specs.List.{concat};
 ghost use Rattle.std.specs.Io.KnownBytes.{Appends};
 ghost use Rattle.fuxi_io.specs.Causes.{Rose};
-ghost use Rattle.written_calm.specs.CalmRounds.{CalmBringsQuiet};
-ghost use Rattle.written_storm.specs.StormEnds.{EndsQuiet};
-ghost use Rattle.written_world.specs.Runs.{run};
-ghost use Rattle.written_world.specs.Safe.{AllFit, Views, AllAgree, AllSettled};
-ghost use Rattle.written_world.specs.Credits.{AllCreditedOnce};
-ghost use Rattle.written_world.specs.Judging.{AllJudge};
-ghost use Rattle.written_world.specs.Starts.{StartsWithNothing};
-ghost use Rattle.written_world.specs.EventSteps.{AllBare, AllGrow, AllLose};
-ghost use Rattle.schedule_run.specs.Inputs.{Input};
+ghost use Rattle.spec_progress.specs.CalmRounds.{CalmBringsQuiet};
+ghost use Rattle.storm_run.specs.StormEnds.{EndsQuiet};
+ghost use Rattle.spec_world.specs.Runs.{run};
+ghost use Rattle.spec_world.specs.Safe.{AllFit, Views, AllAgree, AllSettled};
+ghost use Rattle.spec_world.specs.Credits.{AllCreditedOnce};
+ghost use Rattle.spec_world.specs.Judging.{AllJudge};
+ghost use Rattle.spec_world.specs.Starts.{StartsWithNothing};
+ghost use Rattle.spec_world.specs.EventSteps.{AllBare, AllGrow, AllLose};
+ghost use Rattle.schedule_replay.specs.Inputs.{Input};
 ghost use Rattle.input_lines.specs.LineRuns.{AtEnd, AtBadLine, AtLimit};
-ghost use Rattle.schedule_run.specs.ScheduleRuns.{run_of, read_from, pieces, ReadsWhole, StopsWithin, Ended};
-ghost use Rattle.schedule_run.specs.Told.{IsText, IsTextBefore, IsFrontText, Writes, LeadsTo};
+ghost use Rattle.schedule_replay.specs.ScheduleRuns.{run_of, read_from, pieces, ReadsWhole, StopsWithin, Ended};
+ghost use Rattle.schedule_replay.specs.Told.{IsText, IsTextBefore, IsFrontText, Writes, LeadsTo};
 ghost use Rattle.fuxi_command.specs.RunStates.{AllCountOnce, AllKeepGrants, AllTakeByQuota};
 ghost use Rattle.storm_run.specs.StormRuns.{IsLimit};
 ghost use Rattle.storm_run.specs.Summaries.{storm_of};
@@ -22,17 +22,17 @@ ghost use Rattle.fuxi_command.specs.CommandWords.{Lease, Node, Replay, Storm, Wo
 ghost use Rattle.fuxi_node.specs.declared.kind.NodeKind.{NodeKind};
 ghost use Rattle.fuxi_node.specs.declared.kind.NodeKind.TheVariants.{Master};
 ghost use Rattle.fuxi_node.specs.NodeInputs.{HasNoCluster, InputEnded, InputEndsBy, IsDiskless, LeavesDisk, MayStart, ending_of, status_at};
-ghost use Rattle.node_door.specs.Doors.{WhereTold};
+ghost use Rattle.fuxi_io.specs.Doors.{WhereTold};
 ghost use Rattle.fuxi_io.specs.Disks.{Told as Moments};
-ghost use Rattle.written_roles.specs.HardState.{HardState};
-ghost use Rattle.lease_run.specs.LeaseEnds.{LeaseEnded};
-ghost use Rattle.lease_run.specs.LeaseRuns.{run_of as lease_run_of, text_of};
-ghost use Rattle.written_work.specs.AgentWithApps.{empty_world as empty_work};
-ghost use Rattle.work_run.specs.WorkLineRuns.{Ended as WorkEnded, run_from as work_run_from, run_of as work_run_of, text_of as work_text_of};
-ghost use Rattle.work_run.specs.WorkRunStates.{AllPlanned};
+ghost use Rattle.spec_roles.specs.HardState.{HardState};
+ghost use Rattle.epoch_lease.specs.LeaseEnds.{LeaseEnded};
+ghost use Rattle.epoch_lease.specs.LeaseRuns.{run_of as lease_run_of, text_of};
+ghost use Rattle.work_plan.specs.AgentWithApps.{empty_world as empty_work};
+ghost use Rattle.work_plan.specs.WorkLineRuns.{Ended as WorkEnded, run_from as work_run_from, run_of as work_run_of, text_of as work_text_of};
+ghost use Rattle.work_plan.specs.WorkRunStates.{AllPlanned};
 ghost use Rattle.fuxi_node.specs.MasterEnds.{RefusesEpoch};
 ghost use Rattle.hard_state.specs.HardFiles.{KeepsDamaged, records_of};
-ghost use Rattle.written_roles.specs.Refusals.{NotRising, HardFull};
+ghost use Rattle.spec_roles.specs.Refusals.{NotRising, HardFull};
 ghost use Rattle.fuxi_io.specs.Reports.{TakesReport};
 ghost use Rattle.fuxi_command.specs.CommandReports.{report_line};
 ghost use Rattle.fuxi_command.specs.Outcomes.{IsOutcome, TellsLease, seen};
@@ -40,14 +40,13 @@ ghost use Rattle.fuxi_terms.specs.Limits.{most_lines, most_records};
 
 use crate::telling::report;
 use crate::words::{Command, command_of};
-use fuxi_io::{Disk, InputFault, LimitOf, LineReader, Sink, Source, Status};
+use epoch_lease::run_lease;
+use fuxi_io::{Disk, Door, InputFault, LimitOf, LineReader, Sink, Source, Status};
 use fuxi_node::{NodeKind, run_input};
-use lease_run::run_lease;
-use node_door::Door;
-use schedule_run::run_schedule;
+use schedule_replay::run_schedule;
 use std::alloc::Global;
 use storm_run::run_storm;
-use work_run::run_work;
+use work_plan::run_work;
 
 // Runs the command of the words.
 fn run_command<S: Source, O: Sink, D: Disk, N: Door>(
@@ -251,7 +250,7 @@ pub fn fuxi<S: Source, O: Sink, E: Sink, D: Disk, N: Door>(
     ensures work { command_of (map string_bytes words.now) ≡ Some Work → IfSome (S.left input.old) (λ bytes. WorkEnded (work_run_from 0 empty_work) bytes result (S.left input.new) (O.took out.old) (O.took out.new)) }
 
     // done: the lines of the events and the state were written.
-    ensures work_text { command_of (map string_bytes words.now) ≡ Some Work → result ≡ Status.Done → IfSome (S.left input.old) (λ bytes. Appends (O.took out.old) (O.took out.new) (work_text_of bytes)) }
+    ensures work_plan { command_of (map string_bytes words.now) ≡ Some Work → result ≡ Status.Done → IfSome (S.left input.old) (λ bytes. Appends (O.took out.old) (O.took out.new) (work_text_of bytes)) }
 
     // In every state of its run in which an agent runs, just the workers run that the plans in force and the counts allow.
     ensures work_planned { command_of (map string_bytes words.now) ≡ Some Work → IfSome (S.left input.old) (λ bytes. AllPlanned bytes) }
@@ -273,21 +272,21 @@ pub fn fuxi<S: Source, O: Sink, E: Sink, D: Disk, N: Door>(
         → (result ≡ status_at (ending_of kind bytes)) ⊎ (result ≡ Status.OutOfMemory) }
 {
     // The laws of the states of a run, for the clauses on them.
-    written_world::law::always_safe();
-    written_world::law::give_backs_are_credited_once();
-    written_world::law::every_run_grows_as_allowed();
-    written_world::law::every_run_keeps_banned_machines_bare();
-    written_roles::law::preempts_by_quota();
-    written_world::law::a_failover_keeps_grants();
-    written_world::law::starts_with_nothing();
-    written_world::law::every_run_loses_only_what_is_credited();
-    schedule_run::law::inputs_are_given();
-    work_run::law::runs_go_as_planned();
-    written_world::law::every_judgement_bans_what_is_judged();
-    written_calm::law::calm_rounds_bring_quiet();
-    written_storm::law::storms_end_quiet();
+    spec_world::law::always_safe();
+    spec_world::law::give_backs_are_credited_once();
+    spec_world::law::every_run_grows_as_allowed();
+    spec_world::law::every_run_keeps_banned_machines_bare();
+    spec_roles::law::preempts_by_quota();
+    spec_world::law::a_failover_keeps_grants();
+    spec_world::law::starts_with_nothing();
+    spec_world::law::every_run_loses_only_what_is_credited();
+    schedule_replay::law::inputs_are_given();
+    work_plan::law::runs_go_as_planned();
+    spec_world::law::every_judgement_bans_what_is_judged();
+    spec_progress::law::calm_rounds_bring_quiet();
+    storm_run::law::storms_end_quiet();
     // The law of what a run tells, for the clauses on texts.
-    schedule_run::law::runs_are_told();
+    schedule_replay::law::runs_are_told();
     let status = run_command(alloc, words, input, out, disk, door);
     let _told = report(err, &status);
     status

@@ -2,14 +2,14 @@
 use Rattle.std.proofs.Common.{◌≡◌, ℕ, List, [], ◌++◌, map, Some, IfSome, Result, Ok, Err, refl, sym, ◌∙◌, ap, subst, append_assoc, ◌+◌, ◌<◌, ◌∷◌, drop, get_or, length, take, IfOk, arith, append-nil}
 use Rattle.std.specs.Prelude.{OnOk, codes, decimal}
 use Rattle.std.specs.List.{flat_map}
-use Rattle.written_world.specs.Show.{show_master}
+use Rattle.spec_world.specs.Show.{show_master}
 use Rattle.party_text.specs.Texts.{Shows}
-use Rattle.node_party.specs.NodeTexts.{lines_text, no_frame}
-use Rattle.written_roles.specs.HardState.{HardState}
-use Rattle.written_roles.specs.MasterRoles.{MasterRole}
+use Rattle.node_core.specs.NodeTexts.{lines_text, no_frame}
+use Rattle.spec_roles.specs.HardState.{HardState}
+use Rattle.spec_roles.specs.MasterRoles.{MasterRole}
 use Rattle.fuxi_master.specs.Cores.{MasterRecord, StandsFor}
-use Rattle.node_rounds.specs.Roles.{Role, OfAgent, OfApp, OfMaster}
-use Rattle.master_node.specs.MasterParties.{NodeRecord, StandsAs}
+use Rattle.node_core.specs.Roles.{Role, OfAgent, OfApp, OfMaster}
+use Rattle.node_parties.specs.MasterParties.{NodeRecord, StandsAs}
 use Rattle.master_desk.specs.CallOrders.{IsWhole}
 use Rattle.master_desk.specs.Desks.{IsDeskRun}
 use Rattle.master_desk.specs.Books.{BookRecord, HasRun, entry_line, order_in}

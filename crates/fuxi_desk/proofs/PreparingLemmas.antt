@@ -2,12 +2,12 @@
 use Rattle.std.proofs.Common.{◌≡◌, ℕ, List, [], ◌∷◌, Option, None, Some, Ok, ◌∙◌, ap, subst}
 use Rattle.fuxi_terms.specs.Cluster.{ClusterRecord}
 use Rattle.fuxi_io.specs.Disks.{Told, WhereTold}
-use Rattle.written_roles.specs.HardState.{HardState, Raise, empty_hard, hard_step}
-use Rattle.written_roles.specs.MasterRoles.{master_started}
+use Rattle.spec_roles.specs.HardState.{HardState, Raise, empty_hard, hard_step}
+use Rattle.spec_roles.specs.MasterRoles.{master_started}
 use Rattle.hard_state.specs.HardFiles.{Kept, records_of}
-use Rattle.node_rounds.specs.Roles.{OfMaster}
-use Rattle.master_node.specs.MasterParties.{NodeRecord, StandsAs}
-use Rattle.master_node.specs.OpenedMasters.{StartsFrom}
+use Rattle.node_core.specs.Roles.{OfMaster}
+use Rattle.node_parties.specs.MasterParties.{NodeRecord, StandsAs}
+use Rattle.node_parties.specs.OpenedMasters.{StartsFrom}
 use Rattle.fuxi_desk.specs.Preparing.{first_hard}
 
 none_read : (bytes : List ℕ) (h : HardState) → bytes ≡ [] → records_of bytes ≡ Ok h → h ≡ empty_hard

@@ -2,12 +2,12 @@
 use Rattle.std.specs.Prelude.{◌≡◌, ℕ, cond, List, [], ◌∷◌, ◌++◌, Option, Some, None, codes, decimal}
 use Rattle.std.specs.List.{flat_map}
 use Rattle.wire_frames.specs.Names.{name_of, found_of}
-use Rattle.written_world.specs.Show.{show_master}
-use Rattle.written_roles.specs.HardState.{HardState}
-use Rattle.written_roles.specs.MasterRoles.{MasterRole}
+use Rattle.spec_world.specs.Show.{show_master}
+use Rattle.spec_roles.specs.HardState.{HardState}
+use Rattle.spec_roles.specs.MasterRoles.{MasterRole}
 use Rattle.schedule_text.specs.PrintedLines.{ended, kind_word, party_word, place_word, what_word}
-use Rattle.node_rounds.specs.Roles.{OfMaster}
-use Rattle.node_party.specs.NodeTexts.{lines_text}
+use Rattle.node_core.specs.Roles.{OfMaster}
+use Rattle.node_core.specs.NodeTexts.{lines_text}
 use Rattle.master_desk.specs.declared.call.BadCall.{BadCall}
 use Rattle.master_desk.specs.declared.call.BadCall.TheVariants.{Frame, Trailing, End}
 use Rattle.master_desk.specs.declared.entry.Words.{Words}

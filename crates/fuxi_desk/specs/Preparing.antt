@@ -1,12 +1,12 @@
 -- What the lines of a desk prepare: a master, with its hard state, and sessions.
 use Rattle.std.specs.Prelude.{◌≡◌, ℕ, Bool, false, not, nat_lt, List, [], ◌∷◌, ◌++◌, replicate, set}
 use Rattle.fuxi_terms.specs.Cluster.{ClusterRecord}
-use Rattle.written_roles.specs.HardState.{HardState}
-use Rattle.written_roles.specs.MasterRoles.{master_started}
-use Rattle.node_rounds.specs.Roles.{Role, OfMaster}
-use Rattle.node_party.specs.PartyEvents.{commanded}
-use Rattle.node_party.specs.NodeTexts.{answer_text}
-use Rattle.master_node.specs.MasterParties.{NodeRecord, StandsAs}
+use Rattle.spec_roles.specs.HardState.{HardState}
+use Rattle.spec_roles.specs.MasterRoles.{master_started}
+use Rattle.node_core.specs.Roles.{Role, OfMaster}
+use Rattle.node_core.specs.PartyEvents.{commanded}
+use Rattle.node_core.specs.NodeTexts.{answer_text}
+use Rattle.node_parties.specs.MasterParties.{NodeRecord, StandsAs}
 use Rattle.master_desk.specs.CallOrders.{calls_of, most_calls, most_sessions, total}
 use Rattle.fuxi_desk.specs.DeskLines.{DeskEvent, Submits, Calls}
 

@@ -2,12 +2,12 @@
 
 ghost use Rattle.std.specs.Prelude.{◌≡◌, ◌+◌, ◌<◌, ◌≤◌, ℕ, List, false, IfOk};
 ghost use Rattle.fuxi_terms.specs.Limits.{most_steps};
-ghost use Rattle.written_roles.specs.HardState.{HardState};
-ghost use Rattle.written_roles.specs.MasterRoles.{MasterRole};
+ghost use Rattle.spec_roles.specs.HardState.{HardState};
+ghost use Rattle.spec_roles.specs.MasterRoles.{MasterRole};
 ghost use Rattle.schedule_text.specs.Halting.{anywhere};
 ghost use Rattle.schedule_text.specs.Writing.{IsLineEvent};
-ghost use Rattle.node_rounds.specs.Roles.{OfMaster};
-ghost use Rattle.master_node.specs.MasterParties.{StandsAs};
+ghost use Rattle.node_core.specs.Roles.{OfMaster};
+ghost use Rattle.node_parties.specs.MasterParties.{StandsAs};
 ghost use Rattle.master_desk.specs.CallOrders.{most_calls, most_sessions, total};
 ghost use Rattle.fuxi_master.specs.Cores.{StandsFor};
 ghost use Rattle.fuxi_desk.specs.DeskLines.{Submits, Calls};
@@ -20,8 +20,8 @@ use fuxi_io::MemDisk;
 use fuxi_master::Master;
 use fuxi_terms::OutOfMemory;
 use master_desk::{MOST_CALLS, Sessions};
-use master_node::MasterNode;
-use node_party::{Node, law, push_answer};
+use node_core::{Node, law, push_answer};
+use node_parties::MasterNode;
 use schedule_text::Event;
 use std::alloc::Global;
 use std::marker::Model;
@@ -49,7 +49,7 @@ impl Drop for Prepared {
 
 impl Model for Prepared {
     ghost use Rattle.std.specs.Prelude.{length, None};
-    ghost use Rattle.master_node.specs.MasterParties.{RestsAt};
+    ghost use Rattle.node_parties.specs.MasterParties.{RestsAt};
     ghost use Rattle.fuxi_desk.specs.Preparing.{PreparedRecord};
 
     ghost Value = { PreparedRecord };

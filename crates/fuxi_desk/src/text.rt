@@ -2,9 +2,9 @@
 
 ghost use Rattle.std.specs.Prelude.{◌≡◌, ◌++◌, ◌∷◌, [], true, is_some, map, decimal, OnOk};
 ghost use Rattle.std.specs.List.{flat_map};
-ghost use Rattle.written_roles.specs.MasterRoles.{MasterRole};
+ghost use Rattle.spec_roles.specs.MasterRoles.{MasterRole};
 ghost use Rattle.fuxi_master.specs.Cores.{StandsFor};
-ghost use Rattle.core_side.specs.Parcels.{kind_of};
+ghost use Rattle.peer_channel.specs.Parcels.{kind_of};
 ghost use Rattle.schedule_text.specs.Printing.{as_kind};
 ghost use Rattle.schedule_text.specs.Writing.{blanked, spaced};
 ghost use Rattle.master_desk.specs.Desks.{sending_of};
@@ -13,8 +13,8 @@ ghost use Rattle.fuxi_desk.specs.DeskTexts.{bad_words, desk_text, found_words, l
 
 use fuxi_terms::OutOfMemory;
 use master_desk::{BadCall, Book, Entry, Head, Heads, Words};
-use master_text::write_master;
 use party_ledgers::{Heard, Kind};
+use party_text::write_master;
 use schedule_text::{Kind as PrintedKind, Output, write_output};
 use schedule_unit::write_number;
 use std::alloc::Global;

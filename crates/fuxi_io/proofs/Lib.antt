@@ -5,3 +5,5 @@ pub mod DisksLemmas
 pub mod WrittenLemmas
 pub mod ReportsLemmas
 pub mod WriteBuffersLemmas
+pub mod MemoryReads
+pub mod ConnectionsTook

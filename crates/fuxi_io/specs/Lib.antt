@@ -10,3 +10,7 @@ pub mod MemoryDisks
 pub mod Written
 pub mod Reports
 pub mod WriteBuffers
+pub mod UsageTraces
+pub mod Doors
+pub mod MemoryDoors
+pub mod DoorsLemmas

@@ -13,20 +13,20 @@ use Rattle.grant_table.specs.GrantTables.{IsSound}
 use Rattle.failover.specs.KeptReports.{kept_of}
 use Rattle.failover.specs.Reported.{Reported}
 use Rattle.allotment.specs.SettlingRuns.{AreTouched}
-use Rattle.written_net.specs.Ledgers.{Ledger}
-use Rattle.written_net.specs.Channels.{agent_id}
+use Rattle.spec_net.specs.Ledgers.{Ledger}
+use Rattle.spec_net.specs.Channels.{agent_id}
 use Rattle.fuxi_terms.specs.Jobs.{unit_count}
 use Rattle.place_pass.specs.Placers.{IsUpToDate}
-use Rattle.written_roles.specs.Masters.{Master, out}
-use Rattle.written_roles.specs.MasterSteps.{adopted}
-use Rattle.written_roles.specs.Placing.{line_up, has_pair}
-use Rattle.written_roles.specs.MasterRoles.{MasterRole}
-use Rattle.core_side.specs.Bodies.{report_of}
+use Rattle.spec_roles.specs.Masters.{Master, out}
+use Rattle.spec_roles.specs.MasterSteps.{adopted}
+use Rattle.spec_roles.specs.Placing.{line_up, has_pair}
+use Rattle.spec_roles.specs.MasterRoles.{MasterRole}
+use Rattle.peer_channel.specs.Bodies.{report_of}
 use Rattle.allotment.specs.Allotted.{AllotmentRecord, Allots, rows_put}
-use Rattle.broadcast.specs.declared.grants.News.{News}
-use Rattle.broadcast.specs.AllShown.{Down, credited_after, is_job, with_reported}
+use Rattle.ledger_updates.specs.declared.grants.StepChanges.{StepChanges}
+use Rattle.ledger_updates.specs.AllShown.{Down, credited_after, is_job, with_reported}
 use Rattle.fuxi_master.specs.Cores.{CoreRecord, IsCore, StandsFor}
-use Rattle.fuxi_master.specs.Heard.{IsNews, Changes, adopting, adopting_role}
+use Rattle.fuxi_master.specs.Heard.{AreStepChanges, Changes, adopting, adopting_role}
 use Rattle.fuxi_master.specs.Steps.{StandsMid}
 use Rattle.fuxi_master.proofs.ReportAdopted.{put_adopted, opened_now}
 use Rattle.fuxi_master.proofs.StepEndsLemmas.{lined_as}
@@ -48,7 +48,7 @@ pub record IsEntered (m : ℕ) (usable : Bool) (kept : List (RowKey × ℕ)) (x 
 
 module _ (x : CoreRecord) (core : IsCore x) (sound : IsSound x.allotment.table) (machine : MachineNo) (lt : machine.0 < length x.allotment.table.cluster.machines) (d : Down) (at : slice_get x.agents machine.0 ≡ Some d)
     (kept : List (RowKey × ℕ)) (kept_is : kept ≡ kept_of x.known machine.0 d.incoming.received.table) (y z : AllotmentRecord) (done : IsEntered machine.0 (not (has_number machine.0 x.known.bans)) kept x.allotment y z)
-    (news : News) (is : IsNews (Some machine) None news) where
+    (news : StepChanges) (is : AreStepChanges (Some machine) None news) where
   abbrev m : ℕ
   m = machine.0
 

@@ -16,15 +16,15 @@ use Rattle.grant_table.specs.GrantTables.{as_known}
 use Rattle.failover.specs.KeptReports.{kept_entries, kept_of}
 use Rattle.party_ledgers.specs.declared.packets.Heard.{Heard}
 use Rattle.party_ledgers.specs.declared.packets.Packet.{Packet}
-use Rattle.written_net.specs.Net.{is_taken}
-use Rattle.written_net.specs.Ledgers.{row_ledger}
-use Rattle.written_net.specs.Channels.{master_id, agent_id}
-use Rattle.written_roles.specs.MasterRoles.{MasterRole}
-use Rattle.core_side.specs.Bodies.{report_of}
-use Rattle.core_side.specs.Parcels.{packet_of}
-use Rattle.core_side.specs.CoreSides.{HearsAlike}
-use Rattle.broadcast.specs.Projections.{row_of}
-use Rattle.broadcast.specs.AllShown.{Down}
+use Rattle.spec_net.specs.Net.{is_taken}
+use Rattle.spec_net.specs.Ledgers.{row_ledger}
+use Rattle.spec_net.specs.Channels.{master_id, agent_id}
+use Rattle.spec_roles.specs.MasterRoles.{MasterRole}
+use Rattle.peer_channel.specs.Bodies.{report_of}
+use Rattle.peer_channel.specs.Parcels.{packet_of}
+use Rattle.peer_channel.specs.CoreSides.{HearsAlike}
+use Rattle.ledger_updates.specs.Projections.{row_of}
+use Rattle.ledger_updates.specs.AllShown.{Down}
 use Rattle.fuxi_master.specs.Cores.{CoreRecord, IsCore, IsWithin, StandsFor}
 use Rattle.fuxi_master.specs.Heard.{ReportTest, excess_by, is_too_much, heard_of, with_heard, HearsAgent, IsDue}
 use Rattle.fuxi_master.proofs.AgentHeardAlike.{test_of, stands_heard, heard_side, hears_agent}

@@ -13,18 +13,18 @@ use Rattle.fuxi_terms.specs.declared.vectors.Sum.{Sum}
 use Rattle.fuxi_terms.proofs.Booleans.{both_true, nat_itself}
 use Rattle.party_ledgers.specs.declared.packets.Heard.{Heard}
 use Rattle.party_ledgers.specs.declared.packets.Packet.{Packet}
-use Rattle.written_net.specs.Net.{Heard as NetHeard, Party, is_taken, hear}
-use Rattle.written_net.specs.Ledgers.{Ledger, row_ledger, nothing}
-use Rattle.written_net.specs.Channels.{master_id, agent_id}
-use Rattle.written_net.specs.Sides.{Side, Parcel, HeardSide, hears_side, taken_as, heard_as, tested, unless_excess, patched_by}
-use Rattle.written_roles.specs.Masters.{Master}
-use Rattle.written_roles.specs.MasterSteps.{master_party, adopts}
-use Rattle.written_roles.specs.MasterRoles.{MasterRole, set_side, report_excess}
-use Rattle.core_side.specs.Bodies.{report_of}
+use Rattle.spec_net.specs.Net.{Heard as NetHeard, Party, is_taken, hear}
+use Rattle.spec_net.specs.Ledgers.{Ledger, row_ledger, nothing}
+use Rattle.spec_net.specs.Channels.{master_id, agent_id}
+use Rattle.spec_net.specs.Sides.{Side, Parcel, HeardSide, hears_side, taken_as, heard_as, tested, unless_excess, patched_by}
+use Rattle.spec_roles.specs.Masters.{Master}
+use Rattle.spec_roles.specs.MasterSteps.{master_party, adopts}
+use Rattle.spec_roles.specs.MasterRoles.{MasterRole, set_side, report_excess}
+use Rattle.peer_channel.specs.Bodies.{report_of}
 use Rattle.schedule_unit.specs.declared.party.Role.TheVariants.{Master as AsMaster}
-use Rattle.core_side.specs.Parcels.{id_of, packet_of, parcel_is}
-use Rattle.core_side.specs.CoreSides.{HearsAlike, Hears}
-use Rattle.broadcast.specs.AllShown.{Down}
+use Rattle.peer_channel.specs.Parcels.{id_of, packet_of, parcel_is}
+use Rattle.peer_channel.specs.CoreSides.{HearsAlike, Hears}
+use Rattle.ledger_updates.specs.AllShown.{Down}
 use Rattle.fuxi_master.specs.Cores.{CoreRecord, IsDown, StandsFor}
 use Rattle.fuxi_master.specs.Heard.{ReportTest, excess_by, heard_of, with_heard, HearsAgent}
 use Rattle.fuxi_master.proofs.EndsOfChannels.{stands_at_ends}

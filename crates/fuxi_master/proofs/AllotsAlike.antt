@@ -5,8 +5,8 @@ use Rattle.fuxi_terms.specs.Cluster.{ClusterRecord}
 use Rattle.fuxi_terms.specs.Jobs.{job_numbers}
 use Rattle.fuxi_terms.specs.Numbers.{has_number}
 use Rattle.fuxi_terms.specs.TallyKeys.{want_key, near_key, rack_key, avoid_key}
-use Rattle.written_net.specs.Ledgers.{at_key}
-use Rattle.written_roles.specs.Masters.{Master, demand_of}
+use Rattle.spec_net.specs.Ledgers.{at_key}
+use Rattle.spec_roles.specs.Masters.{Master, demand_of}
 use Rattle.allotment.specs.PlacingReads.{record_of}
 use Rattle.allotment.specs.Allotted.{AllotmentRecord, Allots}
 

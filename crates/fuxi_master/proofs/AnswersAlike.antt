@@ -6,17 +6,17 @@ use Rattle.schedule_unit.specs.declared.party.MachineNo.{MachineNo}
 use Rattle.schedule_unit.specs.declared.party.Party.{Party}
 use Rattle.party_ledgers.specs.declared.packets.Heard.{Heard}
 use Rattle.party_ledgers.specs.declared.packets.Packet.{Packet}
-use Rattle.core_side.specs.Parcels.{IsSent}
-use Rattle.written_net.specs.Net.{Id}
-use Rattle.written_net.specs.Sides.{turn_parcels}
-use Rattle.core_side.specs.Parcels.{id_of, parcel_is}
-use Rattle.written_roles.specs.Masters.{Master}
-use Rattle.written_roles.specs.Refusals.{unless_fault, with_found, AlreadyServing as SaysAlready, NotServing as SaysNot, NothingToPreempt as SaysNothing}
-use Rattle.written_roles.specs.Placing.{line_up}
-use Rattle.written_roles.specs.Preemption.{plan_of, preempted}
-use Rattle.written_roles.specs.MasterSteps.{MasterChange, Begins, Preempts as MakesIt, changed_to, change_of, master_party}
-use Rattle.written_roles.specs.MasterRoles.{MasterRole, Told, HeardAs, Sent as SentAs, master_turn, changes_as, ends_alone, master_steps_alone}
-use Rattle.broadcast.specs.declared.grants.News.{News}
+use Rattle.peer_channel.specs.Parcels.{IsSent}
+use Rattle.spec_net.specs.Net.{Id}
+use Rattle.spec_net.specs.Sides.{turn_parcels}
+use Rattle.peer_channel.specs.Parcels.{id_of, parcel_is}
+use Rattle.spec_roles.specs.Masters.{Master}
+use Rattle.spec_roles.specs.Refusals.{unless_fault, with_found, AlreadyServing as SaysAlready, NotServing as SaysNot, NothingToPreempt as SaysNothing}
+use Rattle.spec_roles.specs.Placing.{line_up}
+use Rattle.spec_roles.specs.Preemption.{plan_of, preempted}
+use Rattle.spec_roles.specs.MasterSteps.{MasterChange, Begins, Preempts as MakesIt, changed_to, change_of, master_party}
+use Rattle.spec_roles.specs.MasterRoles.{MasterRole, Told, HeardAs, Sent as SentAs, master_turn, changes_as, ends_alone, master_steps_alone}
+use Rattle.ledger_updates.specs.declared.grants.StepChanges.{StepChanges}
 use Rattle.fuxi_master.specs.declared.event.MasterEvent.{MasterEvent}
 use Rattle.fuxi_master.specs.declared.event.Outcome.{Outcome}
 use Rattle.fuxi_master.specs.declared.event.MasterEvent.TheVariants.{Packet as PacketComes, Turn, TurnTo}
@@ -24,22 +24,22 @@ use Rattle.fuxi_master.specs.declared.event.Outcome.TheVariants.{Done, Refused, 
 use Rattle.fuxi_master.specs.declared.event.MasterRefusal.TheVariants.{AlreadyServing, NotServing, NothingToPreempt}
 use Rattle.fuxi_master.specs.Cores.{CoreRecord, IsCore, IsWithin, StandsFor}
 use Rattle.fuxi_master.specs.Commands.{changed_by, beginning, MakesRoom}
-use Rattle.fuxi_master.specs.Heard.{Changes, IsNews}
+use Rattle.fuxi_master.specs.Heard.{Changes, AreStepChanges}
 use Rattle.fuxi_master.specs.Steps.{Answers, IsSentFormed, IsStep, IsHeard, StepsAlike, HasRole, EndsAlike, agent_named, app_named, forced_by}
 use Rattle.fuxi_master.proofs.StepsLemmas.{wider, ends_lined}
 
 -- who is named in news
-pub named_by : (machine : Option MachineNo) (app : Option AppNo) (news : News) → news.reported ≡ machine → news.admitted ≡ app → forced_by news ≡ agent_named machine ++ app_named app
+pub named_by : (machine : Option MachineNo) (app : Option AppNo) (news : StepChanges) → news.reported ≡ machine → news.admitted ≡ app → forced_by news ≡ agent_named machine ++ app_named app
 named_by machine app news reported admitted = (λ i. agent_named (reported i) ++ app_named (admitted i))
 
 -- a change that is carried to the end of its step
-pub commanded : (news : News) (f : Master → Master) (forced : List Id) (x y v : CoreRecord) (change : MasterChange)
-    → Changes news (changed_by f) x y → EndsAlike news y v → forced_by news ≡ forced
-    → ((r : MasterRole) → StandsFor x r → change_of r.cluster r.state change ≡ Ok (record { state = f r.state; forced = forced }))
+pub commanded : (news : StepChanges) (f : Master → Master) (even_if_equal : List Id) (x y v : CoreRecord) (change : MasterChange)
+    → Changes news (changed_by f) x y → EndsAlike news y v → forced_by news ≡ even_if_equal
+    → ((r : MasterRole) → StandsFor x r → change_of r.cluster r.state change ≡ Ok (record { state = f r.state; even_if_equal = even_if_equal }))
     → (r : MasterRole) → StandsFor x r → Answers v Done (master_steps_alone r (Told change))
-commanded news f forced x y v change changes ends named is r h =
+commanded news f even_if_equal x y v change changes ends named is r h =
     let ended : StandsFor v (ends_alone r.cluster r.sides (f r.state) (forced_by news)) = ends (changed_by f r) (changes.stands r h) in
-    let there : StandsFor v (ends_alone r.cluster r.sides (f r.state) forced) = subst (λ q. StandsFor v (ends_alone r.cluster r.sides (f r.state) q)) named ended in
+    let there : StandsFor v (ends_alone r.cluster r.sides (f r.state) even_if_equal) = subst (λ q. StandsFor v (ends_alone r.cluster r.sides (f r.state) q)) named ended in
     subst (Answers v Done) (sym (ap (changes_as r) (is r h))) (record { role = there; says = refl })
 
 -- a step that ends with its change
@@ -47,7 +47,7 @@ pub is_done : (event : MasterEvent) (steps : ℕ) (x v : CoreRecord) → IsCore 
 is_done event steps x v core within answers = record { core = core; within = within; answers = answers; formed = tt }
 
 -- the start of service, where it does not serve yet
-pub begins : (x : CoreRecord) → x.serving ≡ false → (r : MasterRole) → StandsFor x r → change_of r.cluster r.state Begins ≡ Ok (record { state = beginning r.state; forced = [] })
+pub begins : (x : CoreRecord) → x.serving ≡ false → (r : MasterRole) → StandsFor x r → change_of r.cluster r.state Begins ≡ Ok (record { state = beginning r.state; even_if_equal = [] })
 begins x off r h = ap (λ b. change_of r.cluster (record r.state { serving = b }) Begins) (h.stands.serving ∙ off)
 
 pub begins_refused : (x : CoreRecord) → x.serving ≡ true → (r : MasterRole) → StandsFor x r → Answers x (Refused AlreadyServing) (master_steps_alone r (Told Begins))
@@ -66,13 +66,13 @@ preempt_nothing x on r h none =
     let is : change_of r.cluster r.state MakesIt ≡ Err SaysNothing = (λ i. unless_fault ((not ((h.stands.serving ∙ on) i), SaysNot) ∷ []) (with_found (none i) (Err SaysNothing) (λ p. changed_to (preempted r.state p)))) in
     subst (Answers x (Refused NothingToPreempt)) (sym (ap (changes_as r) is)) (record { role = h; says = refl })
 
-pub has_room : (news : News) (x y : CoreRecord) → IsCore x → MakesRoom news x y → HasRole news y
+pub has_room : (news : StepChanges) (x y : CoreRecord) → IsCore x → MakesRoom news x y → HasRole news y
 has_room news x y core made =
     let near = core.near in
     let room = made.made near.role near.stands in
     record { role = changed_by (λ M. line_up (preempted M room.plan)) near.role; stands = room.stands; told = record { told = core.told.told; credits = core.told.credits } }
 
-pub room_made : (x y v : CoreRecord) (news : News) → x.serving ≡ true → IsNews None None news → MakesRoom news x y → EndsAlike news y v → (r : MasterRole) → StandsFor x r → Answers v Done (master_steps_alone r (Told MakesIt))
+pub room_made : (x y v : CoreRecord) (news : StepChanges) → x.serving ≡ true → AreStepChanges None None news → MakesRoom news x y → EndsAlike news y v → (r : MasterRole) → StandsFor x r → Answers v Done (master_steps_alone r (Told MakesIt))
 room_made x y v news on is made ends r h =
     let c = r.cluster in
     let M = r.state in
@@ -81,7 +81,7 @@ room_made x y v news on is made ends r h =
     let ended : StandsFor v (ends_alone c r.sides (line_up (preempted M p)) (forced_by news)) = ends (changed_by (λ N. line_up (preempted N p)) r) room.stands in
     let unlined : StandsFor v (ends_alone c r.sides (preempted M p) (forced_by news)) = subst (StandsFor v) (ends_lined c r.sides (preempted M p) (forced_by news) room.lined) ended in
     let there : StandsFor v (ends_alone c r.sides (preempted M p) []) = subst (λ q. StandsFor v (ends_alone c r.sides (preempted M p) q)) (named_by None None news is.reported_is is.admitted_is) unlined in
-    let change : change_of c M MakesIt ≡ Ok (record { state = preempted M p; forced = [] }) = (λ i. unless_fault ((not ((h.stands.serving ∙ on) i), SaysNot) ∷ []) (with_found (room.planned i) (Err SaysNothing) (λ q. changed_to (preempted M q)))) in
+    let change : change_of c M MakesIt ≡ Ok (record { state = preempted M p; even_if_equal = [] }) = (λ i. unless_fault ((not ((h.stands.serving ∙ on) i), SaysNot) ∷ []) (with_found (room.planned i) (Err SaysNothing) (λ q. changed_to (preempted M q)))) in
     subst (Answers v Done) (sym (ap (changes_as r) change)) (record { role = there; says = refl })
 
 -- a step after which the core is what it was

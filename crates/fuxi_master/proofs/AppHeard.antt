@@ -17,19 +17,19 @@ use Rattle.ledger_law.specs.Shapes.{IsTally}
 use Rattle.party_ledgers.specs.declared.packets.Heard.{Heard}
 use Rattle.party_ledgers.specs.declared.packets.Body.TheVariants.{DemandDelta}
 use Rattle.party_ledgers.specs.declared.packets.Packet.{Packet}
-use Rattle.written_net.specs.Net.{hear, is_taken}
-use Rattle.written_net.specs.Ledgers.{Ledger, nothing, at_key, TallyChange}
-use Rattle.written_net.specs.Channels.{master_id, app_id, dropped_by}
-use Rattle.written_net.specs.Sides.{Side, HeardSide, greatest_from, patched_by}
-use Rattle.written_roles.specs.Masters.{credited_of, demand_of}
+use Rattle.spec_net.specs.Net.{hear, is_taken}
+use Rattle.spec_net.specs.Ledgers.{Ledger, nothing, at_key, TallyChange}
+use Rattle.spec_net.specs.Channels.{master_id, app_id, dropped_by}
+use Rattle.spec_net.specs.Sides.{Side, HeardSide, greatest_from, patched_by}
+use Rattle.spec_roles.specs.Masters.{credited_of, demand_of}
 use Rattle.grant_table.specs.GrantTables.{as_known}
 use Rattle.place_pass.specs.Placers.{is_named}
-use Rattle.written_roles.specs.MasterSteps.{master_party, is_there, counted}
-use Rattle.written_roles.specs.MasterRoles.{MasterRole, report_excess}
-use Rattle.core_side.specs.Bodies.{tally_of}
-use Rattle.core_side.specs.Parcels.{packet_of, parcel_is, content_of}
-use Rattle.core_side.specs.CoreSides.{HearsAlike}
-use Rattle.broadcast.specs.AllShown.{App, ShowsJob}
+use Rattle.spec_roles.specs.MasterSteps.{master_party, is_there, counted}
+use Rattle.spec_roles.specs.MasterRoles.{MasterRole, report_excess}
+use Rattle.peer_channel.specs.Bodies.{tally_of}
+use Rattle.peer_channel.specs.Parcels.{packet_of, parcel_is, content_of}
+use Rattle.peer_channel.specs.CoreSides.{HearsAlike}
+use Rattle.ledger_updates.specs.AllShown.{App, ShowsJob}
 use Rattle.fuxi_master.specs.Cores.{CoreRecord, IsNear, IsCore, HasBoots, IsWithin, StandsFor, patched_grants}
 use Rattle.fuxi_master.specs.Heard.{heard_of, with_heard, HearsApp, IsAppHeard, ChangesAsked}
 use Rattle.fuxi_master.specs.ToldAsHeard.{IsHeardOnly, ToldButAt}

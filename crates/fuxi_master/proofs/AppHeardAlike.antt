@@ -7,15 +7,15 @@ use Rattle.fuxi_terms.proofs.Booleans.{nat_itself, number_is}
 use Rattle.ledger_law.specs.Shapes.{IsTally}
 use Rattle.party_ledgers.specs.declared.packets.Heard.{Heard}
 use Rattle.party_ledgers.specs.declared.packets.Packet.{Packet}
-use Rattle.written_net.specs.Channels.{master_id, app_id}
-use Rattle.written_net.specs.Sides.{Side, HeardSide, new_side}
-use Rattle.written_roles.specs.Masters.{credited_of}
-use Rattle.written_roles.specs.MasterSteps.{master_party}
-use Rattle.written_roles.specs.MasterRoles.{MasterRole, set_side}
-use Rattle.core_side.specs.Bodies.{tally_of}
-use Rattle.core_side.specs.Parcels.{packet_of}
-use Rattle.core_side.specs.CoreSides.{HearsAlike, Hears}
-use Rattle.broadcast.specs.AllShown.{App, credited_in}
+use Rattle.spec_net.specs.Channels.{master_id, app_id}
+use Rattle.spec_net.specs.Sides.{Side, HeardSide, new_side}
+use Rattle.spec_roles.specs.Masters.{credited_of}
+use Rattle.spec_roles.specs.MasterSteps.{master_party}
+use Rattle.spec_roles.specs.MasterRoles.{MasterRole, set_side}
+use Rattle.peer_channel.specs.Bodies.{tally_of}
+use Rattle.peer_channel.specs.Parcels.{packet_of}
+use Rattle.peer_channel.specs.CoreSides.{HearsAlike, Hears}
+use Rattle.ledger_updates.specs.AllShown.{App, credited_in}
 use Rattle.fuxi_master.specs.Cores.{CoreRecord, IsApp, patched_grants, StandsFor, shown_credited}
 use Rattle.fuxi_master.specs.Heard.{heard_of, with_heard, HearsApp}
 use Rattle.fuxi_master.proofs.EndsOfChannels.{stands_at_ends}

@@ -10,8 +10,8 @@ use Rattle.fuxi_terms.specs.TallyKeys.{key, want_key, near_key, rack_key, avoid_
 use Rattle.fuxi_terms.proofs.Booleans.{and_false, nat_itself, number_is}
 use Rattle.fuxi_terms.proofs.CountsLemmas.{count_where}
 use Rattle.fuxi_terms.proofs.KeyOrders.{same_key}
-use Rattle.written_net.specs.Ledgers.{tally_ledger}
-use Rattle.written_roles.specs.MasterSteps.{counted, credit, is_there as counts_there}
+use Rattle.spec_net.specs.Ledgers.{tally_ledger}
+use Rattle.spec_roles.specs.MasterSteps.{counted, credit, is_there as counts_there}
 use Rattle.grant_table.specs.GrantTables.{as_known}
 use Rattle.place_pass.specs.Cells.{cell_at}
 use Rattle.place_pass.specs.Placers.{SeenRecord, asks_seen, units_seen, is_there, is_named, AsksOtherwiseAt}

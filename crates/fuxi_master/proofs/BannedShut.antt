@@ -6,7 +6,7 @@ use Rattle.std.proofs.lemmas.List.{get_or-replicate, get_or-set_other, get_or-se
 use Rattle.fuxi_terms.specs.Lists.{below}
 use Rattle.fuxi_terms.specs.Numbers.{has_number}
 use Rattle.fuxi_terms.proofs.Booleans.{and_true, number_is, numbers_differ}
-use Rattle.written_roles.specs.Votes.{VotesRecord, is_shut}
+use Rattle.spec_roles.specs.Votes.{VotesRecord, is_shut}
 use Rattle.fuxi_master.proofs.Below.{all_below, by_places, fails_below, none_below, same_below}
 
 -- there are no votes, and of the machines below a number those that are banned are shut

@@ -14,9 +14,9 @@ use Rattle.fuxi_terms.specs.Tallies.{TallyRecord, ChangeRecord, staying, patched
 use Rattle.fuxi_terms.proofs.Booleans.{both_false, nat_itself}
 use Rattle.fuxi_terms.proofs.CountsLemmas.{count-set_count}
 use Rattle.fuxi_terms.proofs.KeyOrders.{key_total}
-use Rattle.written_net.specs.Ledgers.{Ledger, nothing, tally_ledger}
-use Rattle.written_net.specs.Net.{Heard, is_taken}
-use Rattle.written_net.specs.Sides.{Side, Parcel, HeardSide, Taking, Took, Refused, TooMuch, heard_with, heard_as, taken_as, tested, unless_excess, patched_by}
+use Rattle.spec_net.specs.Ledgers.{Ledger, nothing, tally_ledger}
+use Rattle.spec_net.specs.Net.{Heard, is_taken}
+use Rattle.spec_net.specs.Sides.{Side, Parcel, HeardSide, Taking, Took, Refused, TooMuch, heard_with, heard_as, taken_as, tested, unless_excess, patched_by}
 use Rattle.place_pass.specs.Placers.{is_named}
 
 -- a packet that was not taken leaves what was received, and of a new sender nothing was

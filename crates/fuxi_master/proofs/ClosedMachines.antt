@@ -11,7 +11,7 @@ use Rattle.fuxi_terms.specs.Numbers.{has_number, without_number}
 use Rattle.fuxi_terms.proofs.Alls.{all_more}
 use Rattle.fuxi_terms.proofs.Booleans.{number_is, eq_turned, and_false, or_false, and_with_true}
 use Rattle.fuxi_terms.specs.Tables.{Table}
-use Rattle.written_roles.specs.Masters.{Master}
+use Rattle.spec_roles.specs.Masters.{Master}
 use Rattle.grant_table.specs.GrantTables.{TableRecord, as_known, IsSound}
 use Rattle.allotment.specs.SettlingRuns.{AreTouched}
 use Rattle.allotment.specs.Allotted.{AllotmentRecord, Allots, Touches}

@@ -10,20 +10,20 @@ use Rattle.fuxi_terms.specs.Keys.{Spot, spot_cmp, key_cmp}
 use Rattle.fuxi_terms.specs.Jobs.{KnownJob, job_numbers}
 use Rattle.fuxi_terms.specs.Numbers.{has_number, with_number, without_number}
 use Rattle.fuxi_terms.specs.TallyKeys.{greatest_grant, credited_what}
-use Rattle.written_roles.specs.HardState.{with_ended}
-use Rattle.written_roles.specs.Masters.{Master}
-use Rattle.written_roles.specs.MasterRoles.{MasterRole}
-use Rattle.written_roles.specs.MasterSteps.{banned_in, ended_in, counted}
-use Rattle.written_net.specs.Ledgers.{nothing, tally_ledger}
+use Rattle.spec_roles.specs.HardState.{with_ended}
+use Rattle.spec_roles.specs.Masters.{Master}
+use Rattle.spec_roles.specs.MasterRoles.{MasterRole}
+use Rattle.spec_roles.specs.MasterSteps.{banned_in, ended_in, counted}
+use Rattle.spec_net.specs.Ledgers.{nothing, tally_ledger}
 use Rattle.grant_table.specs.GrantTables.{TableRecord, IsSound}
 use Rattle.hard_state.specs.Knowledge.{Knowledge}
 use Rattle.allotment.specs.PlacingReads.{record_of}
 use Rattle.allotment.specs.Allotted.{AllotmentRecord, Allots, Touches}
 use Rattle.fuxi_terms.specs.NumbersSet.{AreNumbers}
-use Rattle.broadcast.specs.declared.grants.News.{News}
-use Rattle.broadcast.specs.AllShown.{with_reported, is_job, credited_after}
+use Rattle.ledger_updates.specs.declared.grants.StepChanges.{StepChanges}
+use Rattle.ledger_updates.specs.AllShown.{with_reported, is_job, credited_after}
 use Rattle.fuxi_master.specs.Cores.{CoreRecord, IsCore, IsTidy, StandsFor}
-use Rattle.fuxi_master.specs.Heard.{Changes, IsNews}
+use Rattle.fuxi_master.specs.Heard.{Changes, AreStepChanges}
 use Rattle.fuxi_master.specs.Commands.{changed_by, beginning, unbanned_in, IsClosed, IsOpened}
 use Rattle.fuxi_master.proofs.AllotsAlike.{allots_alike}
 use Rattle.fuxi_master.proofs.ClosedMachines.{without_is, untouched, still_touches}
@@ -33,7 +33,7 @@ use Rattle.fuxi_terms.proofs.NumbersLemmas.{among, with_is}
 use Rattle.fuxi_master.proofs.UnreportedBare.{where_none}
 use Rattle.fuxi_master.proofs.Told.{IsTold, stands_told}
 
-pub credits_of : (news : News) → IsNews None None news → AreCredits news
+pub credits_of : (news : StepChanges) → AreStepChanges None None news → AreCredits news
 credits_of news is = record {
   numbers = subst (AreNumbers key_cmp greatest_grant) (sym is.credited_is) (record { sorted = tt; within = tt });
   kinds = subst (AllByRecursion (λ e. nat_eq e.0.what credited_what ≡ true)) (sym is.credited_is) tt;
@@ -41,7 +41,7 @@ credits_of news is = record {
   machines = is.machines_are;
 }
 
-pub nothing_credited : (news : News) → IsNews None None news → (a : ℕ) → cond (is_job news.job a) news.credited.items [] ≡ []
+pub nothing_credited : (news : StepChanges) → AreStepChanges None None news → (a : ℕ) → cond (is_job news.job a) news.credited.items [] ≡ []
 nothing_credited news is a = ap (λ o. cond (is_job o a) news.credited.items []) is.job_is
 
 -- a machine that is reported is one of the cluster's
@@ -51,7 +51,7 @@ reported_there x core r h m e =
     let n : length x.allotment.table.cluster.machines ≡ length r.cluster.machines = ap (λ (k : ClusterRecord). length k.machines) h.stands.cluster in
     omega (arith, lt, n)
 
-module _ (x : CoreRecord) (core : IsCore x) (sound : IsSound x.allotment.table) (news : News) (is : IsNews None None news) where
+module _ (x : CoreRecord) (core : IsCore x) (sound : IsSound x.allotment.table) (news : StepChanges) (is : AreStepChanges None None news) where
   -- what a command makes of the table, of what is known and of the phase
   pub commanded : (z : AllotmentRecord) → Touches x.allotment z → z.table ≡ record x.allotment.table { entries = z.table.entries } → (known : Knowledge) (serving : Bool) → KnowsAlike x.known.jobs known.jobs → (f : Master → Master)
       → ((r : MasterRole) → StandsFor x r → IsTold known serving x.reported r.state (f r.state)) → ((r : MasterRole) → StandsFor x r → Allots z r.cluster (f r.state)) → ((M : Master) → IsTidy M → IsTidy (f M)) → ((M : Master) → (f M).credited ≡ M.credited)

@@ -20,7 +20,7 @@ use Rattle.fuxi_terms.proofs.Booleans.{both_false, both_true}
 use Rattle.fuxi_terms.proofs.CountsLemmas.{both_true as both_hold, lesser, tied}
 use Rattle.fuxi_terms.proofs.KeyOrders.{key_total, same_key, spot_total, same_spot}
 use Rattle.fuxi_terms.proofs.NumbersSetLemmas.{set_same}
-use Rattle.written_roles.specs.MasterSteps.{is_there, credit, raise_credited}
+use Rattle.spec_roles.specs.MasterSteps.{is_there, credit, raise_credited}
 use Rattle.grant_table.specs.GrantTables.{as_known}
 use Rattle.place_pass.specs.Placers.{is_named}
 use Rattle.allotment.specs.Allotted.{AllotmentRecord, Allots, AllWait, CreditsBack, is_new_back, newly_credited}

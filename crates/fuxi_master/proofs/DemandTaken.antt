@@ -16,17 +16,17 @@ use Rattle.fuxi_terms.specs.Numbers.{has_number}
 use Rattle.fuxi_terms.specs.Keys.{key_cmp, spot_cmp}
 use Rattle.fuxi_terms.specs.TallyKeys.{credited_key, credited_what, greatest_grant}
 use Rattle.fuxi_terms.proofs.Booleans.{both_true, nat_itself, number_is, and_false, or_false}
-use Rattle.written_net.specs.Ledgers.{Ledger, nothing, tally_ledger}
-use Rattle.written_net.specs.Channels.{app_id}
-use Rattle.written_roles.specs.Masters.{Master, demand_of, credited_of}
-use Rattle.written_roles.specs.MasterSteps.{counted, credit, raise_credited, take_demand, meet_app, told_of}
-use Rattle.written_roles.specs.MasterRoles.{MasterRole}
+use Rattle.spec_net.specs.Ledgers.{Ledger, nothing, tally_ledger}
+use Rattle.spec_net.specs.Channels.{app_id}
+use Rattle.spec_roles.specs.Masters.{Master, demand_of, credited_of}
+use Rattle.spec_roles.specs.MasterSteps.{counted, credit, raise_credited, take_demand, meet_app, told_of}
+use Rattle.spec_roles.specs.MasterRoles.{MasterRole}
 use Rattle.grant_table.specs.GrantTables.{as_known, IsSound}
 use Rattle.allotment.specs.PlacingReads.{record_of}
 use Rattle.allotment.specs.Allotted.{AllotmentRecord, Allots, newly_credited}
 use Rattle.fuxi_terms.specs.NumbersSet.{numbers_set, AreNumbers}
-use Rattle.broadcast.specs.declared.grants.News.{News}
-use Rattle.broadcast.specs.AllShown.{App, is_job, with_reported, credited_in, credited_after}
+use Rattle.ledger_updates.specs.declared.grants.StepChanges.{StepChanges}
+use Rattle.ledger_updates.specs.AllShown.{App, is_job, with_reported, credited_in, credited_after}
 use Rattle.schedule_unit.specs.declared.party.AppNo.{AppNo}
 use Rattle.fuxi_master.specs.Cores.{CoreRecord, IsKept, IsNear, IsTidy, HasBoots, StandsFor}
 use Rattle.fuxi_master.specs.Heard.{IsDemanded, IsCredit, Changes, ChangesAsked, demanding}
@@ -91,7 +91,7 @@ not_new false a b off = refl
 module _ (x : CoreRecord) (near : IsNear x) (a : ℕ) (fresh taken live : Bool) (d : App) (at : slice_get x.apps a ≡ Some (Some d)) (boots : HasBoots (λ b. fresh && nat_eq b a) x)
     (known : is_known x.known.jobs a ≡ true) (told : (fresh || taken) ≡ true) (z : AllotmentRecord) (numbers : List (Key × ℕ)) (done : IsDemanded a fresh live d x.allotment z numbers)
     (live_when : live ≡ (taken && (nat_eq d.incoming.received.head x.epoch && not (has_ended x.known.jobs a))))
-    (news : News) (is : IsCredit (record { 0 = a }) numbers news) (r : MasterRole) (h : StandsFor x r) where
+    (news : StepChanges) (is : IsCredit (record { 0 = a }) numbers news) (r : MasterRole) (h : StandsFor x r) where
   abbrev c : ClusterRecord
   c = r.cluster
 
@@ -266,7 +266,7 @@ asked_live x a fresh taken live d at live_when o asks =
 -- a core takes what came of an application
 pub demand_changes : (x : CoreRecord) → IsNear x → IsSound x.allotment.table → (a : ℕ) (fresh taken live : Bool) (d : App) → slice_get x.apps a ≡ Some (Some d) → HasBoots (λ b. fresh && nat_eq b a) x → is_known x.known.jobs a ≡ true → (fresh || taken) ≡ true
     → (z : AllotmentRecord) (numbers : List (Key × ℕ)) → IsDemanded a fresh live d x.allotment z numbers → live ≡ (taken && (nat_eq d.incoming.received.head x.epoch && not (has_ended x.known.jobs a)))
-    → (news : News) → IsCredit (record { 0 = a }) numbers news → Changes news (λ r. demanding fresh taken r a) x (record x { allotment = z })
+    → (news : StepChanges) → IsCredit (record { 0 = a }) numbers news → Changes news (λ r. demanding fresh taken r a) x (record x { allotment = z })
 demand_changes x near sound a fresh taken live d at boots known told z numbers done live_when news is = record {
   mid = mid_by x near sound z done.touches.spots done.table x.known x.serving x.reported news boots (λ b off. not_new fresh a b (sym (ap (λ o. is_job o b) is.job_is) ∙ off)) (same_jobs x.known.jobs)
       (record {

@@ -13,11 +13,11 @@ use Rattle.grant_table.specs.GrantTables.{TableRecord, as_known}
 use Rattle.fuxi_terms.specs.NumbersSet.{AreNumbers}
 use Rattle.fuxi_terms.specs.Tables.{Table}
 use Rattle.allotment.specs.PlacingReads.{has_spot}
-use Rattle.written_net.specs.Ledgers.{tally_ledger}
-use Rattle.written_roles.specs.Masters.{Master}
-use Rattle.written_roles.specs.MasterSteps.{counted, credit}
+use Rattle.spec_net.specs.Ledgers.{tally_ledger}
+use Rattle.spec_roles.specs.Masters.{Master}
+use Rattle.spec_roles.specs.MasterSteps.{counted, credit}
 use Rattle.allotment.specs.Allotted.{AllotmentRecord, Allots, Touches, CreditsBack, newly_credited}
-use Rattle.broadcast.specs.AllShown.{App}
+use Rattle.ledger_updates.specs.AllShown.{App}
 use Rattle.fuxi_master.specs.Heard.{IsCredited, IsDemanded}
 use Rattle.fuxi_master.proofs.NewlyCredited.{are_numbers, are_credited}
 

@@ -1,12 +1,12 @@
 -- A core of which the ends of the channels have changed stands for the master with the sides that these stand for.
 use Rattle.std.proofs.Common.{◌≡◌, ℕ, false, List, Option, Some, slice_get}
 use Rattle.fuxi_terms.specs.Jobs.{is_known}
-use Rattle.written_net.specs.Channels.{agent_id, app_id}
-use Rattle.written_net.specs.Net.{Id}
-use Rattle.written_net.specs.Sides.{Side, new_side}
-use Rattle.written_roles.specs.Masters.{credited_of}
-use Rattle.written_roles.specs.MasterRoles.{MasterRole}
-use Rattle.broadcast.specs.AllShown.{Down, App}
+use Rattle.spec_net.specs.Channels.{agent_id, app_id}
+use Rattle.spec_net.specs.Net.{Id}
+use Rattle.spec_net.specs.Sides.{Side, new_side}
+use Rattle.spec_roles.specs.Masters.{credited_of}
+use Rattle.spec_roles.specs.MasterRoles.{MasterRole}
+use Rattle.ledger_updates.specs.AllShown.{Down, App}
 use Rattle.fuxi_master.specs.Cores.{CoreRecord, IsDown, IsApp, StandsFor, shown_credited}
 
 pub stands_at_ends : (x : CoreRecord) (r : MasterRole) → StandsFor x r → (agents : List Down) (apps : List (Option App)) (sides : Id → Side) → ((m : ℕ) (d : Down) → slice_get agents m ≡ Some d → IsDown d x.epoch (sides (agent_id m)))

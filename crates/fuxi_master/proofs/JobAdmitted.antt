@@ -17,19 +17,19 @@ use Rattle.fuxi_terms.proofs.Alls.{all_more, all_map}
 use Rattle.fuxi_terms.proofs.Booleans.{number_is, nat_itself}
 use Rattle.schedule_unit.specs.declared.party.MachineNo.{MachineNo}
 use Rattle.full_sync.specs.Turns.{new_endpoint}
-use Rattle.written_net.specs.Channels.{app_id}
-use Rattle.written_net.specs.Sides.{new_side}
-use Rattle.written_roles.specs.HardState.{with_job}
-use Rattle.written_roles.specs.Masters.{Master, credited_of}
-use Rattle.written_roles.specs.MasterRoles.{MasterRole}
-use Rattle.written_roles.specs.MasterSteps.{count_entries}
+use Rattle.spec_net.specs.Channels.{app_id}
+use Rattle.spec_net.specs.Sides.{new_side}
+use Rattle.spec_roles.specs.HardState.{with_job}
+use Rattle.spec_roles.specs.Masters.{Master, credited_of}
+use Rattle.spec_roles.specs.MasterRoles.{MasterRole}
+use Rattle.spec_roles.specs.MasterSteps.{count_entries}
 use Rattle.grant_table.specs.GrantTables.{TableRecord, as_known, with_admitted, IsSound}
 use Rattle.allotment.specs.PlacingReads.{record_of}
 use Rattle.allotment.specs.Allotted.{AllotmentRecord, Allots}
-use Rattle.broadcast.specs.Projections.{row_of}
+use Rattle.ledger_updates.specs.Projections.{row_of}
 use Rattle.fuxi_terms.specs.NumbersSet.{numbers_set, AreNumbers}
-use Rattle.broadcast.specs.declared.grants.News.{News}
-use Rattle.broadcast.specs.AllShown.{App, IsBefore, ShowsJob, with_reported, is_job, credited_after}
+use Rattle.ledger_updates.specs.declared.grants.StepChanges.{StepChanges}
+use Rattle.ledger_updates.specs.AllShown.{App, IsBefore, ShowsJob, with_reported, is_job, credited_after}
 use Rattle.fuxi_master.specs.Cores.{CoreRecord, IsKept, IsCore, IsApp, StandsFor, IsWithin, IsWithinSoon}
 use Rattle.fuxi_master.specs.Commands.{changed_by, admitting, with_slots}
 use Rattle.fuxi_master.specs.Heard.{Changes}
@@ -40,7 +40,7 @@ use Rattle.fuxi_master.proofs.NotYetShown.{credited_same, machines_few}
 use Rattle.fuxi_master.proofs.Projected.{known_alike, units_at}
 
 -- news of a job that is admitted: the machines that are reported, and nothing credited
-pub record IsAdmission (a : ℕ) (reported : List ℕ) (news : News) : Type 0 where
+pub record IsAdmission (a : ℕ) (reported : List ℕ) (news : StepChanges) : Type 0 where
   pub reported_is : news.reported ≡ None
   pub admitted_is : news.admitted ≡ Some (record { 0 = a })
   pub job_is : news.job ≡ None
@@ -199,7 +199,7 @@ module _ (x : CoreRecord) (core : IsCore x) (sound : IsSound x.allotment.table) 
   few : AllByRecursion (λ m. m < most_machines) x.reported.numbers
   few = let n = machines_few x.allotment.table sound in all_more (λ m. m < length x.allotment.table.cluster.machines) (λ m. m < most_machines) (λ m lt. omega (arith, lt, n)) x.reported.numbers kept.below
 
-  module _ (news : News) (is : IsAdmission j.number x.reported.numbers news) where
+  module _ (news : StepChanges) (is : IsAdmission j.number x.reported.numbers news) where
     named : (a : ℕ) → is_job news.admitted a ≡ nat_eq j.number a
     named a = ap (λ o. is_job o a) is.admitted_is
 

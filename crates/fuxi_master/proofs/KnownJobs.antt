@@ -11,9 +11,9 @@ use Rattle.fuxi_terms.specs.Keys.{RowKey, Spot}
 use Rattle.fuxi_terms.specs.TallyKeys.{count_key}
 use Rattle.fuxi_terms.proofs.Booleans.{nat_itself}
 use Rattle.fuxi_terms.specs.Tables.{Table}
-use Rattle.written_roles.specs.HardState.{with_job}
-use Rattle.written_roles.specs.MasterSteps.{spot_row_key, count_entries}
-use Rattle.broadcast.specs.Projections.{row_of}
+use Rattle.spec_roles.specs.HardState.{with_job}
+use Rattle.spec_roles.specs.MasterSteps.{spot_row_key, count_entries}
+use Rattle.ledger_updates.specs.Projections.{row_of}
 use Rattle.grant_table.specs.GrantTables.{TableRecord, as_known}
 use Rattle.allotment.specs.PlacingReads.{record_of}
 use Rattle.fuxi_master.proofs.Projected.{known_alike}

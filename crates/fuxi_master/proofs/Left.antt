@@ -16,17 +16,17 @@ use Rattle.party_ledgers.specs.declared.header.Header.{Header}
 use Rattle.party_ledgers.specs.declared.packets.Heard.{Heard}
 use Rattle.party_ledgers.specs.declared.packets.Packet.{Packet}
 use Rattle.schedule_unit.specs.declared.party.Role.TheVariants.{Agent as AsAgent, App as AsApp}
-use Rattle.written_net.specs.Net.{Id, same_id, is_taken}
-use Rattle.written_net.specs.Ledgers.{Ledger, row_ledger}
-use Rattle.written_net.specs.Channels.{master_id}
-use Rattle.written_net.specs.Sides.{Side}
-use Rattle.written_roles.specs.Masters.{Master}
-use Rattle.written_roles.specs.MasterRoles.{MasterRole, HeardAs, publish_alone, offers_alone, side_after}
+use Rattle.spec_net.specs.Net.{Id, same_id, is_taken}
+use Rattle.spec_net.specs.Ledgers.{Ledger, row_ledger}
+use Rattle.spec_net.specs.Channels.{master_id}
+use Rattle.spec_net.specs.Sides.{Side}
+use Rattle.spec_roles.specs.Masters.{Master}
+use Rattle.spec_roles.specs.MasterRoles.{MasterRole, HeardAs, publish_alone, offers_alone, side_after}
 use Rattle.fuxi_terms.specs.Cluster.{ClusterRecord}
-use Rattle.core_side.specs.Bodies.{report_of, tally_of}
-use Rattle.core_side.specs.Parcels.{id_of, party_of}
-use Rattle.core_side.specs.CoreSides.{HearsAlike}
-use Rattle.broadcast.specs.AllShown.{Down, App}
+use Rattle.peer_channel.specs.Bodies.{report_of, tally_of}
+use Rattle.peer_channel.specs.Parcels.{id_of, party_of}
+use Rattle.peer_channel.specs.CoreSides.{HearsAlike}
+use Rattle.ledger_updates.specs.AllShown.{Down, App}
 use Rattle.fuxi_master.specs.Cores.{CoreRecord, IsCore, StandsFor, patched_grants}
 use Rattle.fuxi_master.specs.Heard.{HearsAgent, HearsApp}
 use Rattle.fuxi_master.specs.Steps.{HearsRole, StepsAlike}
@@ -43,7 +43,7 @@ set_same xs i v at = ap (set xs i) (sym (get_or_from_slice_get xs i v v at)) ∙
 
 -- The law of the ends of steps, as it is called for
 abbrev pub StepEnds : Type 0
-StepEnds = (c : ClusterRecord) (sides : Id → Side) (M : Master) (forced : List Id) (q : Id) → publish_alone sides (offers_alone c sides M forced) q ≡ side_after c sides M forced q
+StepEnds = (c : ClusterRecord) (sides : Id → Side) (M : Master) (even_if_equal : List Id) (q : Id) → publish_alone sides (offers_alone c sides M even_if_equal) q ≡ side_after c sides M even_if_equal q
 
 module _ (law : StepEnds) (x : CoreRecord) (core : IsCore x) (h : Header) (mine : same_id (party_of h.to).id master_id ≡ true) where
   -- as what is heard, where it is told, each packet with the header is

@@ -18,9 +18,9 @@ use Rattle.fuxi_terms.proofs.Alls.{all_mapped}
 use Rattle.fuxi_terms.proofs.Booleans.{both_true, number_is}
 use Rattle.fuxi_terms.proofs.CountsLemmas.{both_true as both_hold, count-set_count, tied, lesser}
 use Rattle.fuxi_terms.proofs.KeyOrders.{key_total, same_key}
-use Rattle.written_roles.specs.MasterSteps.{is_there, raise_credited}
+use Rattle.spec_roles.specs.MasterSteps.{is_there, raise_credited}
 use Rattle.fuxi_terms.specs.NumbersSet.{numbers_set, AreNumbers}
-use Rattle.broadcast.specs.AllShown.{credited_in}
+use Rattle.ledger_updates.specs.AllShown.{credited_in}
 use Rattle.allotment.specs.Allotted.{is_new_back, newly_credited}
 
 abbrev pub entry_of : Key × ℕ → Key × ℕ

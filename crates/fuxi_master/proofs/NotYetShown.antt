@@ -18,10 +18,10 @@ use Rattle.failover.specs.Reported.{Reported}
 use Rattle.allotment.specs.PlacingReads.{record_of}
 use Rattle.allotment.specs.SettlingRuns.{AreTouched}
 use Rattle.allotment.specs.Allotted.{AllotmentRecord}
-use Rattle.broadcast.specs.Projections.{row_of}
+use Rattle.ledger_updates.specs.Projections.{row_of}
 use Rattle.fuxi_terms.specs.NumbersSet.{numbers_set, AreNumbers}
-use Rattle.broadcast.specs.declared.grants.News.{News}
-use Rattle.broadcast.specs.AllShown.{Down, App, IsBefore, is_job, with_reported, credited_in, credited_after}
+use Rattle.ledger_updates.specs.declared.grants.StepChanges.{StepChanges}
+use Rattle.ledger_updates.specs.AllShown.{Down, App, IsBefore, is_job, with_reported, credited_in, credited_after}
 use Rattle.fuxi_master.specs.Cores.{CoreRecord, HasBoots, IsKept, IsNear, IsWithin, IsWithinSoon, shown_credited}
 use Rattle.fuxi_master.specs.Steps.{IsMid}
 
@@ -34,7 +34,7 @@ machines_few t s =
     grind (arith, nat_tests, m)
 
 -- the job that is admitted is none
-pub none_admitted : (news : News) (a : ℕ) → news.admitted ≡ None → is_job news.admitted a ≡ false
+pub none_admitted : (news : StepChanges) (a : ℕ) → news.admitted ≡ None → is_job news.admitted a ≡ false
 none_admitted news a e = ap (λ o. is_job o a) e
 
 -- jobs that are known alike: of the same numbers, with the same records
@@ -47,7 +47,7 @@ pub same_jobs : (j : List KnownJob) → KnowsAlike j j
 same_jobs j = record { numbers = refl; records = λ a. refl; known = λ a. refl }
 
 -- what is credited by the news is in order
-pub record AreCredits (news : News) : Type 0 where
+pub record AreCredits (news : StepChanges) : Type 0 where
   pub numbers : AreNumbers key_cmp greatest_grant news.credited.items
   pub kinds : AllByRecursion (λ e. nat_eq e.0.what credited_what ≡ true) news.credited.items
   pub admitted : news.admitted ≡ None
@@ -61,7 +61,7 @@ module _ (x : CoreRecord) (near : IsNear x) (sound : IsSound x.allotment.table) 
     others = λ s off. spots.others s off;
   }
 
-  module _ (known : Knowledge) (serving : Bool) (reported : Reported) (news : News) {new : ℕ → Bool} (boots : HasBoots new x) (old : (a : ℕ) → is_job news.job a ≡ false → new a ≡ false) (jobs : KnowsAlike x.known.jobs known.jobs) (credits : AreCredits news)
+  module _ (known : Knowledge) (serving : Bool) (reported : Reported) (news : StepChanges) {new : ℕ → Bool} (boots : HasBoots new x) (old : (a : ℕ) → is_job news.job a ≡ false → new a ≡ false) (jobs : KnowsAlike x.known.jobs known.jobs) (credits : AreCredits news)
       (now : reported.numbers ≡ with_reported news.reported x.reported.numbers) (size : reported.size ≡ x.reported.size)
       (rising : T (is_sorted {X = ℕ} nat_cmp (map (λ (m : ℕ). (m, 0)) reported.numbers))) (below : AllByRecursion (λ m. m < length x.allotment.table.cluster.machines) reported.numbers) where
     abbrev moved : CoreRecord
@@ -113,7 +113,7 @@ module _ (x : CoreRecord) (near : IsNear x) (sound : IsSound x.allotment.table) 
     }
 
 -- what is credited is what was shown, where the boot is the same and nothing new is credited
-pub credited_same : (news : News) (a : ℕ) (d : App) → d.outgoing.present.head ≡ d.incoming.place.inc → cond (is_job news.job a) news.credited.items [] ≡ [] → credited_after news a d ≡ shown_credited a d
+pub credited_same : (news : StepChanges) (a : ℕ) (d : App) → d.outgoing.present.head ≡ d.incoming.place.inc → cond (is_job news.job a) news.credited.items [] ≡ [] → credited_after news a d ≡ shown_credited a d
 credited_same news a d boot none =
     let same : nat_eq d.incoming.place.inc d.outgoing.present.head ≡ true = grind (arith, nat_tests, boot) in
     (λ i. numbers_set key_cmp (cond (same i) (credited_in d.outgoing.present.entries) []) (none i))

@@ -3,8 +3,8 @@ use Rattle.std.proofs.Common.{◌≡◌, ℕ, List, sym, ◌∙◌}
 use Rattle.fuxi_terms.specs.Keys.{Spot}
 use Rattle.fuxi_terms.specs.Tables.{Table}
 use Rattle.grant_table.specs.GrantTables.{TableRecord}
-use Rattle.broadcast.specs.declared.grants.News.{News}
-use Rattle.broadcast.specs.AllShown.{Down, has_spot, IsBefore, RowsAreBefore, GrantsAreBefore}
+use Rattle.ledger_updates.specs.declared.grants.StepChanges.{StepChanges}
+use Rattle.ledger_updates.specs.AllShown.{Down, has_spot, IsBefore, RowsAreBefore, GrantsAreBefore}
 
 module _ (t : TableRecord) (spots ordered : List Spot) (same : (s : Spot) → has_spot s ordered ≡ has_spot s spots) where
   before_same : (before : Table) → IsBefore t spots before → IsBefore t ordered before
@@ -13,7 +13,7 @@ module _ (t : TableRecord) (spots ordered : List Spot) (same : (s : Spot) → ha
   pub rows_same : (sides : List Down) → RowsAreBefore t spots sides → RowsAreBefore t ordered sides
   rows_same sides r = record { before = r.before; is = before_same r.before r.is; rows = r.rows }
 
-  pub grants_same : (news : News) (now : List ℕ) (apps : List _) → GrantsAreBefore t spots news now apps → GrantsAreBefore t ordered news now apps
+  pub grants_same : (news : StepChanges) (now : List ℕ) (apps : List _) → GrantsAreBefore t spots news now apps → GrantsAreBefore t ordered news now apps
   grants_same news now apps g = record {
     before = g.before;
     is = before_same g.before g.is;

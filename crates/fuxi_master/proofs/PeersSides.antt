@@ -2,12 +2,12 @@
 use Rattle.std.proofs.Common.{◌≡◌, Bool, true, false, cond, List, [], ◌∷◌, ◌++◌, refl, ◌∙◌, ap, nat_eq}
 use Rattle.std.specs.Prelude.{◌||◌}
 use Rattle.fuxi_terms.proofs.Booleans.{both_true, number_is}
-use Rattle.written_net.specs.Net.{Id, same_id}
-use Rattle.written_net.specs.Ledgers.{Ledger}
-use Rattle.written_net.specs.Channels.{Offer, is_due}
-use Rattle.written_net.specs.Sides.{Side, appended, resynced_side, shown}
-use Rattle.written_roles.specs.MasterSteps.{is_one_of}
-use Rattle.written_roles.specs.MasterRoles.{set_side, publish_alone, resync_alone}
+use Rattle.spec_net.specs.Net.{Id, same_id}
+use Rattle.spec_net.specs.Ledgers.{Ledger}
+use Rattle.spec_net.specs.Channels.{Offer, is_due}
+use Rattle.spec_net.specs.Sides.{Side, appended, resynced_side, shown}
+use Rattle.spec_roles.specs.MasterSteps.{is_one_of}
+use Rattle.spec_roles.specs.MasterRoles.{set_side, publish_alone, resync_alone}
 
 -- A peer's side is resynced once
 pub same_peer : (a q : Id) → same_id a q ≡ true → a ≡ q
@@ -30,8 +30,8 @@ resynced_at (a ∷ qs) sides q =
     twice false e = refl
 
 -- what is published changes nothing that was received
-appended_got : (forced : Bool) (l : Ledger) (e : Side) → (appended forced l e).got ≡ e.got
-appended_got forced l e = elim (is_due forced (shown e) l) as (λ b. (cond b (record { link = e.link; got = e.got; sent = e.sent ++ l ∷ [] }) e).got ≡ e.got) [ true ↦ refl | false ↦ refl ]
+appended_got : (even_if_equal : Bool) (l : Ledger) (e : Side) → (appended even_if_equal l e).got ≡ e.got
+appended_got even_if_equal l e = elim (is_due even_if_equal (shown e) l) as (λ b. (cond b (record { link = e.link; got = e.got; sent = e.sent ++ l ∷ [] }) e).got ≡ e.got) [ true ↦ refl | false ↦ refl ]
 
 set_got : (sides : Id → Side) (p : Id) (e : Side) (q : Id) → e.got ≡ (sides p).got → (set_side sides p e q).got ≡ (sides q).got
 set_got sides p e q same = elim (same_id p q) as (λ b. same_id p q ≡ b → (elim b as (λ _. Side) [ true ↦ e | false ↦ sides q ]).got ≡ (sides q).got) [
@@ -42,5 +42,5 @@ set_got sides p e q same = elim (same_id p q) as (λ b. same_id p q ≡ b → (e
 pub published_got : (os : List Offer) (sides : Id → Side) (q : Id) → (publish_alone sides os q).got ≡ (sides q).got
 published_got [] sides q = refl
 published_got (o ∷ os) sides q =
-    let e = appended o.forced o.ledger (sides o.to) in
-    published_got os (set_side sides o.to e) q ∙ set_got sides o.to e q (appended_got o.forced o.ledger (sides o.to))
+    let e = appended o.even_if_equal o.ledger (sides o.to) in
+    published_got os (set_side sides o.to e) q ∙ set_got sides o.to e q (appended_got o.even_if_equal o.ledger (sides o.to))

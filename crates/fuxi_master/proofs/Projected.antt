@@ -9,12 +9,12 @@ use Rattle.fuxi_terms.proofs.Booleans.{or_false}
 use Rattle.fuxi_terms.specs.Tables.{Table}
 use Rattle.schedule_unit.specs.declared.party.AppNo.{AppNo}
 use Rattle.schedule_unit.specs.declared.party.MachineNo.{MachineNo}
-use Rattle.written_net.specs.Channels.{agent_id, app_id}
-use Rattle.written_roles.specs.MasterSteps.{is_one_of, spot_row_key}
+use Rattle.spec_net.specs.Channels.{agent_id, app_id}
+use Rattle.spec_roles.specs.MasterSteps.{is_one_of, spot_row_key}
 use Rattle.allotment.specs.PlacingReads.{record_of}
-use Rattle.broadcast.specs.Projections.{row_of}
-use Rattle.broadcast.specs.declared.grants.News.{News}
-use Rattle.broadcast.specs.AllShown.{is_machine, is_job}
+use Rattle.ledger_updates.specs.Projections.{row_of}
+use Rattle.ledger_updates.specs.declared.grants.StepChanges.{StepChanges}
+use Rattle.ledger_updates.specs.AllShown.{is_machine, is_job}
 use Rattle.fuxi_master.specs.Steps.{agent_named, app_named, forced_by}
 
 -- the units of a job are those of its record
@@ -50,7 +50,7 @@ rows_alike js ks same m table = ap {A = Spot × ℕ → RowKey × ℕ} (λ f. ma
     keys s = ap (λ (us : List UnitRecord). record { job = s.job; unit = s.unit; size = (unwrap_or (slice_get us s.unit) no_unit).size }) (units_alike js ks same s.job)
 
 -- whom a step's news force
-pub agent_forced : (news : News) (m : ℕ) → is_one_of (agent_id m) (forced_by news) ≡ is_machine news.reported m
+pub agent_forced : (news : StepChanges) (m : ℕ) → is_one_of (agent_id m) (forced_by news) ≡ is_machine news.reported m
 agent_forced news m = by news.reported news.admitted
   where
     by : (r : Option MachineNo) (a : Option AppNo) → is_one_of (agent_id m) (agent_named r ++ app_named a) ≡ is_machine r m
@@ -59,7 +59,7 @@ agent_forced news m = by news.reported news.admitted
     by (Some n) None = or_false (nat_eq n.0 m)
     by (Some n) (Some a) = or_false (nat_eq n.0 m)
 
-pub app_forced : (news : News) (a : ℕ) → is_one_of (app_id a) (forced_by news) ≡ is_job news.admitted a
+pub app_forced : (news : StepChanges) (a : ℕ) → is_one_of (app_id a) (forced_by news) ≡ is_job news.admitted a
 app_forced news a = by news.reported news.admitted
   where
     by : (r : Option MachineNo) (o : Option AppNo) → is_one_of (app_id a) (agent_named r ++ app_named o) ≡ is_job o a

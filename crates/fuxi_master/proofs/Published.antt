@@ -7,18 +7,18 @@ use Rattle.std.proofs.lemmas.Option.{slice_get_within}
 use Rattle.fuxi_terms.specs.Cluster.{ClusterRecord}
 use Rattle.fuxi_terms.specs.Jobs.{is_known}
 use Rattle.fuxi_terms.proofs.Lists.{all_at}
-use Rattle.written_net.specs.Net.{Id}
-use Rattle.written_net.specs.Ledgers.{row_ledger, tally_ledger}
-use Rattle.written_net.specs.Channels.{agent_id, app_id}
-use Rattle.written_net.specs.Sides.{Side, appended}
-use Rattle.written_roles.specs.Masters.{Master}
-use Rattle.written_roles.specs.MasterSteps.{talks, projected, is_one_of}
-use Rattle.written_roles.specs.MasterRoles.{MasterRole, publish_alone, offers_alone, side_after}
-use Rattle.core_side.specs.Bodies.{tally_of}
+use Rattle.spec_net.specs.Net.{Id}
+use Rattle.spec_net.specs.Ledgers.{row_ledger, tally_ledger}
+use Rattle.spec_net.specs.Channels.{agent_id, app_id}
+use Rattle.spec_net.specs.Sides.{Side, appended}
+use Rattle.spec_roles.specs.Masters.{Master}
+use Rattle.spec_roles.specs.MasterSteps.{talks, projected, is_one_of}
+use Rattle.spec_roles.specs.MasterRoles.{MasterRole, publish_alone, offers_alone, side_after}
+use Rattle.peer_channel.specs.Bodies.{tally_of}
 use Rattle.grant_table.specs.GrantTables.{as_known}
-use Rattle.broadcast.specs.Projections.{row_of, grant_entries}
-use Rattle.broadcast.specs.declared.grants.News.{News}
-use Rattle.broadcast.specs.AllShown.{Down, App, ShowsRows, ShowsAllGrants, IsShownAnew, ShowsJob, is_job, credited_in, grants_after}
+use Rattle.ledger_updates.specs.Projections.{row_of, grant_entries}
+use Rattle.ledger_updates.specs.declared.grants.StepChanges.{StepChanges}
+use Rattle.ledger_updates.specs.AllShown.{Down, App, ShowsRows, ShowsAllGrants, IsShownAnew, ShowsJob, is_job, credited_in, grants_after}
 use Rattle.fuxi_master.specs.Cores.{CoreRecord, IsKept, IsDown, IsApp, StandsWith, shown_credited}
 use Rattle.fuxi_master.specs.StepEnds.{IsPublished}
 use Rattle.fuxi_master.specs.Steps.{IsMid, StandsMid, forced_by}
@@ -26,9 +26,9 @@ use Rattle.fuxi_master.proofs.Indexed.{other_at, all_from}
 use Rattle.fuxi_master.proofs.Projected.{rows_alike, agent_forced, app_forced}
 
 LawEnds : Type 0
-LawEnds = (c : ClusterRecord) (sides : Id → Side) (M : Master) (forced : List Id) (q : Id) → publish_alone sides (offers_alone c sides M forced) q ≡ side_after c sides M forced q
+LawEnds = (c : ClusterRecord) (sides : Id → Side) (M : Master) (even_if_equal : List Id) (q : Id) → publish_alone sides (offers_alone c sides M even_if_equal) q ≡ side_after c sides M even_if_equal q
 
-module _ (x : CoreRecord) (news : News) (mid : IsMid x news) (agents : List Down) (apps : List (Option App))
+module _ (x : CoreRecord) (news : StepChanges) (mid : IsMid x news) (agents : List Down) (apps : List (Option App))
     (rows : ShowsRows x.allotment.table news.reported x.agents agents) (grants : ShowsAllGrants x.allotment.table news x.reported.numbers x.apps apps) where
   abbrev after : CoreRecord
   after = record x { allotment = record x.allotment { touched = [] }; agents = agents; apps = apps }
@@ -174,7 +174,7 @@ module _ (x : CoreRecord) (news : News) (mid : IsMid x news) (agents : List Down
       uncredited = h.uncredited;
     }
 
-  pub published : ((c : ClusterRecord) (sides : Id → Side) (M : Master) (forced : List Id) (q : Id) → publish_alone sides (offers_alone c sides M forced) q ≡ side_after c sides M forced q) → IsPublished news x after
+  pub published : ((c : ClusterRecord) (sides : Id → Side) (M : Master) (even_if_equal : List Id) (q : Id) → publish_alone sides (offers_alone c sides M even_if_equal) q ≡ side_after c sides M even_if_equal q) → IsPublished news x after
   unfolding LawEnds
   published law = record {
     kept = kept_after;

@@ -8,16 +8,16 @@ use Rattle.fuxi_terms.specs.Counts.{is_same}
 use Rattle.fuxi_terms.proofs.Booleans.{and_true, nat_itself}
 use Rattle.fuxi_terms.proofs.KeyOrders.{key_total, row_key_total}
 use Rattle.fuxi_terms.proofs.SameEntries.{same_itself}
-use Rattle.written_net.specs.Net.{Id}
-use Rattle.written_net.specs.Ledgers.{Ledger, same_ledger, row_ledger, tally_ledger}
-use Rattle.written_net.specs.Channels.{agent_id, app_id}
-use Rattle.written_net.specs.Sides.{Side, shown, appended}
-use Rattle.written_roles.specs.Masters.{Master, credited_of}
-use Rattle.written_roles.specs.MasterSteps.{ready, talks, projected}
-use Rattle.written_roles.specs.MasterRoles.{MasterRole, publish_alone, offers_alone, side_after, ends_alone}
+use Rattle.spec_net.specs.Net.{Id}
+use Rattle.spec_net.specs.Ledgers.{Ledger, same_ledger, row_ledger, tally_ledger}
+use Rattle.spec_net.specs.Channels.{agent_id, app_id}
+use Rattle.spec_net.specs.Sides.{Side, shown, appended}
+use Rattle.spec_roles.specs.Masters.{Master, credited_of}
+use Rattle.spec_roles.specs.MasterSteps.{ready, talks, projected}
+use Rattle.spec_roles.specs.MasterRoles.{MasterRole, publish_alone, offers_alone, side_after, ends_alone}
 use Rattle.grant_table.specs.GrantTables.{as_known}
-use Rattle.broadcast.specs.Projections.{row_of, grant_entries}
-use Rattle.broadcast.specs.AllShown.{Down, App}
+use Rattle.ledger_updates.specs.Projections.{row_of, grant_entries}
+use Rattle.ledger_updates.specs.AllShown.{Down, App}
 use Rattle.allotment.specs.Allotted.{Allots}
 use Rattle.fuxi_master.specs.Cores.{CoreRecord, IsCore, IsDown, IsApp, IsTidy, StandsFor}
 use Rattle.fuxi_master.proofs.Projected.{rows_alike}
@@ -30,7 +30,7 @@ same_as_itself l = and_true (nat_eq l.head l.head) (is_same row_cmp l.rows l.row
 not_due : (e : Side) (l : Ledger) → shown e ≡ l → appended false l e ≡ e
 not_due e l is = ap (λ b. cond (not b) (record { link = e.link; got = e.got; sent = e.sent ++ l ∷ [] }) e) (ap (λ y. same_ledger y l) is ∙ same_as_itself l)
 
-module _ (law : (c : ClusterRecord) (sides : Id → Side) (M : Master) (forced : List Id) (q : Id) → publish_alone sides (offers_alone c sides M forced) q ≡ side_after c sides M forced q)
+module _ (law : (c : ClusterRecord) (sides : Id → Side) (M : Master) (even_if_equal : List Id) (q : Id) → publish_alone sides (offers_alone c sides M even_if_equal) q ≡ side_after c sides M even_if_equal q)
     (x : CoreRecord) (core : IsCore x) (r : MasterRole) (h : StandsFor x r) where
   abbrev c : ClusterRecord
   c = r.cluster

@@ -18,10 +18,10 @@ use Rattle.fuxi_terms.specs.Lists.{below}
 use Rattle.fuxi_terms.proofs.Booleans.{both_true, and_true, false_and, or_left, or_right, or_false, number_is, nat_itself, eq_turned}
 use Rattle.fuxi_terms.proofs.CountsLemmas.{count-set_count, tied}
 use Rattle.fuxi_terms.proofs.KeyOrders.{spot_total, same_spot}
-use Rattle.written_roles.specs.Masters.{Master, asked, out, out_of}
-use Rattle.written_roles.specs.MasterSteps.{phased, ready, settled_if_serving, is_all_reported}
-use Rattle.written_roles.specs.Placing.{has_pair, lined, waiting_in, waiting_pairs, line_up, placeable, may_grow, accepts, has_room, is_usable, first_placeable, granted, settle, settled, all_out}
-use Rattle.written_roles.specs.Settling.{NothingPlaceable, Picks, IsFirst}
+use Rattle.spec_roles.specs.Masters.{Master, asked, out, out_of}
+use Rattle.spec_roles.specs.MasterSteps.{phased, ready, settled_if_serving, is_all_reported}
+use Rattle.spec_roles.specs.Placing.{has_pair, lined, waiting_in, waiting_pairs, line_up, placeable, may_grow, accepts, has_room, is_usable, first_placeable, granted, settle, settled, all_out}
+use Rattle.spec_roles.specs.Settling.{NothingPlaceable, Picks, IsFirst}
 use Rattle.fuxi_master.specs.Cores.{IsTidy}
 use Rattle.fuxi_terms.proofs.NumbersLemmas.{with_is}
 use Rattle.fuxi_terms.specs.Tables.{Table}

@@ -17,7 +17,7 @@ use Rattle.fuxi_terms.proofs.Booleans.{both_true, number_is, eq_turned}
 use Rattle.fuxi_terms.proofs.VectorLaws.{fits_places, at_place-padded}
 use Rattle.hard_state.specs.Knowledge.{Knowledge}
 use Rattle.failover.specs.KeptReports.{kept_entries, kept_of}
-use Rattle.written_roles.specs.MasterSteps.{is_kept, same_size, adopted}
+use Rattle.spec_roles.specs.MasterSteps.{is_kept, same_size, adopted}
 use Rattle.allotment.specs.PlacingReads.{record_of}
 use Rattle.allotment.specs.Allotted.{rows_put}
 use Rattle.fuxi_terms.proofs.NumbersLemmas.{with_is}

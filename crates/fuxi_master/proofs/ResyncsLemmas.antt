@@ -13,17 +13,17 @@ use Rattle.fuxi_terms.specs.declared.answers.LedgerFault.{LedgerFault}
 use Rattle.fuxi_terms.proofs.Booleans.{eq_turned, or_left, or_right}
 use Rattle.fuxi_terms.proofs.Lists.{all_at}
 use Rattle.full_sync.specs.Turns.{Endpoint}
-use Rattle.written_net.specs.Net.{Id}
-use Rattle.written_net.specs.Ledgers.{Ledger}
-use Rattle.written_net.specs.Channels.{agent_id, app_id}
-use Rattle.written_net.specs.Sides.{Side, new_side, resynced_side}
-use Rattle.written_roles.specs.Masters.{credited_of}
-use Rattle.written_roles.specs.MasterSteps.{peers, is_one_of}
-use Rattle.written_roles.specs.MasterRoles.{MasterRole, resync_alone, master_resynced}
-use Rattle.core_side.specs.CoreSides.{IsSide}
+use Rattle.spec_net.specs.Net.{Id}
+use Rattle.spec_net.specs.Ledgers.{Ledger}
+use Rattle.spec_net.specs.Channels.{agent_id, app_id}
+use Rattle.spec_net.specs.Sides.{Side, new_side, resynced_side}
+use Rattle.spec_roles.specs.Masters.{credited_of}
+use Rattle.spec_roles.specs.MasterSteps.{peers, is_one_of}
+use Rattle.spec_roles.specs.MasterRoles.{MasterRole, resync_alone, master_resynced}
+use Rattle.peer_channel.specs.CoreSides.{IsSide}
 use Rattle.grant_table.specs.GrantTables.{as_known}
-use Rattle.broadcast.specs.Projections.{row_of}
-use Rattle.broadcast.specs.AllShown.{Down, App, ShowsJob, credited_in}
+use Rattle.ledger_updates.specs.Projections.{row_of}
+use Rattle.ledger_updates.specs.AllShown.{Down, App, ShowsJob, credited_in}
 use Rattle.fuxi_master.specs.Cores.{CoreRecord, IsDown, IsApp, IsCore, IsKept, IsWithin, StandsFor}
 use Rattle.fuxi_master.specs.Resyncs.{agent_forgotten, app_forgotten}
 use Rattle.fuxi_master.proofs.EndsOfChannels.{stands_at_ends}

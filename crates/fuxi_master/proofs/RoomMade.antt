@@ -1,19 +1,19 @@
 -- Room is made for a unit that waits.
 use Rattle.std.proofs.Common.{◌≡◌, ◌+◌, ◌≤◌, Bool, true, false, Some, None, refl, sym, ap, ◌∙◌}
 use Rattle.fuxi_terms.specs.Cluster.{ClusterRecord}
-use Rattle.written_roles.specs.Masters.{Master}
-use Rattle.written_roles.specs.MasterRoles.{MasterRole}
-use Rattle.written_roles.specs.Placing.{line_up}
-use Rattle.written_roles.specs.Preemption.{Plan, plan_of, preempted}
+use Rattle.spec_roles.specs.Masters.{Master}
+use Rattle.spec_roles.specs.MasterRoles.{MasterRole}
+use Rattle.spec_roles.specs.Placing.{line_up}
+use Rattle.spec_roles.specs.Preemption.{Plan, plan_of, preempted}
 use Rattle.grant_table.specs.GrantTables.{IsSound}
 use Rattle.place_pass.specs.Placers.{IsUpToDate}
 use Rattle.allotment.specs.SettlingRuns.{AreTouched}
 use Rattle.allotment.specs.Allotted.{AllotmentRecord, Allots, AllWait}
-use Rattle.broadcast.specs.declared.grants.News.{News}
-use Rattle.broadcast.specs.AllShown.{with_reported, credited_after}
+use Rattle.ledger_updates.specs.declared.grants.StepChanges.{StepChanges}
+use Rattle.ledger_updates.specs.AllShown.{with_reported, credited_after}
 use Rattle.fuxi_master.specs.Cores.{CoreRecord, IsCore, StandsFor}
 use Rattle.fuxi_master.specs.Commands.{IsPreempted, CarriesOut, RoomIsMade, Preempts}
-use Rattle.fuxi_master.specs.Heard.{IsNews}
+use Rattle.fuxi_master.specs.Heard.{AreStepChanges}
 use Rattle.fuxi_master.specs.Steps.{IsMid}
 use Rattle.fuxi_master.proofs.Readied.{lined_again}
 use Rattle.fuxi_master.proofs.StepEndsLemmas.{lined_as}
@@ -36,11 +36,11 @@ room_made x y p planned carried waits up spots table turns = record {
 }
 
 module _ (x : CoreRecord) (core : IsCore x) (sound : IsSound x.allotment.table) (z : AllotmentRecord) where
-  made_mid : IsPreempted true x.allotment z → (news : News) → IsNews None None news → IsMid (record x { allotment = z }) news
+  made_mid : IsPreempted true x.allotment z → (news : StepChanges) → AreStepChanges None None news → IsMid (record x { allotment = z }) news
   made_mid made news is = mid_by x core.near sound z made.spots made.table x.known x.serving x.reported news core.boots (λ a _. refl) (same_jobs x.known.jobs) (credits_of news is)
       (ap (λ o. with_reported o x.reported.numbers) (sym is.reported_is)) refl core.near.kept.rising core.near.kept.below
 
-  made_room : IsPreempted true x.allotment z → (news : News) → IsNews None None news → (r : MasterRole) → StandsFor x r → RoomIsMade news (record x { allotment = z }) r
+  made_room : IsPreempted true x.allotment z → (news : StepChanges) → AreStepChanges None None news → (r : MasterRole) → StandsFor x r → RoomIsMade news (record x { allotment = z }) r
   made_room made news is r h =
       let c = r.cluster in
       let M = r.state in

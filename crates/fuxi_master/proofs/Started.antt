@@ -14,21 +14,21 @@ use Rattle.fuxi_terms.proofs.Alls.{all_more}
 use Rattle.fuxi_terms.proofs.Booleans.{both_true, and_false, eq_turned}
 use Rattle.fuxi_terms.proofs.Lists.{all_at}
 use Rattle.hard_state.specs.Knowledge.{Knowledge}
-use Rattle.written_net.specs.Net.{Id}
-use Rattle.written_net.specs.Ledgers.{row_ledger, tally_ledger}
-use Rattle.written_net.specs.Channels.{agent_id, app_id}
-use Rattle.written_net.specs.Sides.{Side, new_side, appended}
-use Rattle.written_roles.specs.HardState.{HardState}
-use Rattle.written_roles.specs.Masters.{Master, out}
-use Rattle.written_roles.specs.MasterSteps.{ready, settled_if_serving, is_one_of, talks}
-use Rattle.written_roles.specs.MasterRoles.{MasterRole, publish_alone, offers_alone, side_after, ends_alone, master_started}
-use Rattle.written_roles.specs.Placing.{has_pair, line_up}
+use Rattle.spec_net.specs.Net.{Id}
+use Rattle.spec_net.specs.Ledgers.{row_ledger, tally_ledger}
+use Rattle.spec_net.specs.Channels.{agent_id, app_id}
+use Rattle.spec_net.specs.Sides.{Side, new_side, appended}
+use Rattle.spec_roles.specs.HardState.{HardState}
+use Rattle.spec_roles.specs.Masters.{Master, out}
+use Rattle.spec_roles.specs.MasterSteps.{ready, settled_if_serving, is_one_of, talks}
+use Rattle.spec_roles.specs.MasterRoles.{MasterRole, publish_alone, offers_alone, side_after, ends_alone, master_started}
+use Rattle.spec_roles.specs.Placing.{has_pair, line_up}
 use Rattle.grant_table.specs.GrantTables.{as_known}
 use Rattle.allotment.specs.PlacingReads.{record_of}
 use Rattle.allotment.specs.Allotted.{AllotmentRecord, Allots}
 use Rattle.place_pass.specs.Placers.{IsUpToDate}
-use Rattle.broadcast.specs.Projections.{row_of, grant_entries}
-use Rattle.broadcast.specs.AllShown.{Down, App, ShowsJob, credited_in}
+use Rattle.ledger_updates.specs.Projections.{row_of, grant_entries}
+use Rattle.ledger_updates.specs.AllShown.{Down, App, ShowsJob, credited_in}
 use Rattle.fuxi_master.specs.Cores.{CoreRecord, IsKept, IsCore, IsDown, IsApp, IsWithin, StandsFor}
 use Rattle.fuxi_master.specs.MasterStarts.{IsDownStarted, AreAppsStarted, AreAdmitted, side_started}
 use Rattle.fuxi_master.proofs.AllotsAlike.{allots_alike}
@@ -85,7 +85,7 @@ first_core c epoch known y agents apps = record { epoch = epoch; known = known; 
 pub no_jobs_first : (c : ClusterRecord) (x : AllotmentRecord) → ((M : Master) → M.jobs ≡ [] → M.table ≡ [] → M.demands ≡ [] → M.line ≡ [] → M.reported ≡ [] → Allots x c M) → x.table.jobs ≡ []
 no_jobs_first c x starts = no_jobs x.table.jobs (starts (first_master 0 [] []) refl refl refl refl refl).placing.numbers
 
-module _ (law : (c : ClusterRecord) (sides : Id → Side) (M : Master) (forced : List Id) (q : Id) → publish_alone sides (offers_alone c sides M forced) q ≡ side_after c sides M forced q)
+module _ (law : (c : ClusterRecord) (sides : Id → Side) (M : Master) (even_if_equal : List Id) (q : Id) → publish_alone sides (offers_alone c sides M even_if_equal) q ≡ side_after c sides M even_if_equal q)
     (c : ClusterRecord) (valid : IsTrue (is_valid_cluster c)) (epoch : ℕ) (known : Knowledge) (numbers : ℕ) (below_numbers : (a : ℕ) → is_known known.jobs a ≡ true → a < numbers) (x y : AllotmentRecord)
     (starts : (M : Master) → M.jobs ≡ [] → M.table ≡ [] → M.demands ≡ [] → M.line ≡ [] → M.reported ≡ [] → Allots x c M) (admitted : AreAdmitted known.jobs numbers x y)
     (agents : List Down) (downs : AreDownsStarted epoch (length c.machines) agents) (apps : List (Option App)) (slots : AreAppsStarted epoch known.jobs numbers apps) where
@@ -117,14 +117,14 @@ module _ (law : (c : ClusterRecord) (sides : Id → Side) (M : Master) (forced :
       ap {A = Bool} (λ b. settled_if_serving c (line_up (record N { serving = b }))) (none_reported (length c.machines) (some_machine c valid))
       ∙ ap (settled_if_serving c) (lined_again N no_line)
 
-  abbrev forced : List Id
-  forced = map app_id (job_numbers known.jobs)
+  abbrev even_if_equal : List Id
+  even_if_equal = map app_id (job_numbers known.jobs)
 
   abbrev sides : Id → Side
-  sides = publish_alone (λ q. new_side) (offers_alone c (λ q. new_side) (ready c N) forced)
+  sides = publish_alone (λ q. new_side) (offers_alone c (λ q. new_side) (ready c N) even_if_equal)
 
-  sides_are : (q : Id) → sides q ≡ side_after c (λ q. new_side) N forced q
-  sides_are q = law c (λ q. new_side) (ready c N) forced q ∙ ap (λ M. side_after c (λ q. new_side) M forced q) ready_same
+  sides_are : (q : Id) → sides q ≡ side_after c (λ q. new_side) N even_if_equal q
+  sides_are q = law c (λ q. new_side) (ready c N) even_if_equal q ∙ ap (λ M. side_after c (λ q. new_side) M even_if_equal q) ready_same
 
   agent_side : (m : ℕ) → sides (agent_id m) ≡ new_side
   agent_side m =
@@ -134,11 +134,11 @@ module _ (law : (c : ClusterRecord) (sides : Id → Side) (M : Master) (forced :
 
   app_side : (a : ℕ) → is_known known.jobs a ≡ true → sides (app_id a) ≡ side_started
   app_side a e =
-      let named : is_one_of (app_id a) forced ≡ true = app_forced (job_numbers known.jobs) a ∙ listed known.jobs a ∙ e in
+      let named : is_one_of (app_id a) even_if_equal ≡ true = app_forced (job_numbers known.jobs) a ∙ listed known.jobs a ∙ e in
       sides_are (app_id a) ∙ (λ i. cond (e i) (appended (named i) (tally_ledger 0 []) new_side) new_side)
 
   stranger_side : (a : ℕ) → is_known known.jobs a ≡ false → sides (app_id a) ≡ new_side
-  stranger_side a e = sides_are (app_id a) ∙ ap (λ b. cond b (appended (is_one_of (app_id a) forced) (tally_ledger 0 []) new_side) new_side) e
+  stranger_side a e = sides_are (app_id a) ∙ ap (λ b. cond b (appended (is_one_of (app_id a) even_if_equal) (tally_ledger 0 []) new_side) new_side) e
 
   stands_first : StandsFor core (record { cluster = c; state = N; sides = sides })
   stands_first = record {

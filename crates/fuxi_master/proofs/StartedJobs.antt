@@ -13,8 +13,8 @@ use Rattle.fuxi_terms.specs.Jobs.{KnownJob, job_of, is_known, job_numbers}
 use Rattle.fuxi_terms.specs.Numbers.{has_number, with_number}
 use Rattle.fuxi_terms.proofs.Booleans.{number_is, nat_itself, same_tests, or_left}
 use Rattle.fuxi_terms.proofs.CountsLemmas.{tied}
-use Rattle.written_roles.specs.HardState.{with_job}
-use Rattle.written_roles.specs.Masters.{Master}
+use Rattle.spec_roles.specs.HardState.{with_job}
+use Rattle.spec_roles.specs.Masters.{Master}
 use Rattle.grant_table.specs.GrantTables.{TableRecord, as_known, with_admitted}
 use Rattle.allotment.specs.PlacingReads.{record_of}
 use Rattle.allotment.specs.Allotted.{AllotmentRecord, Allots, AllWait}

@@ -4,7 +4,7 @@ use Rattle.std.specs.Prelude.{is_some, IfSome}
 use Rattle.std.specs.List.{AllByRecursion}
 use Rattle.std.proofs.lemmas.List.{length-append}
 use Rattle.fuxi_terms.specs.Jobs.{KnownJob, is_known}
-use Rattle.broadcast.specs.AllShown.{Down, App}
+use Rattle.ledger_updates.specs.AllShown.{Down, App}
 use Rattle.fuxi_master.specs.MasterStarts.{IsDownStarted, IsAppStarted, AreAppsStarted}
 
 -- as many ends of channels with agents

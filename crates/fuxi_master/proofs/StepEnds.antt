@@ -11,13 +11,13 @@ use Rattle.fuxi_terms.specs.Lists.{below}
 use Rattle.fuxi_terms.specs.Keys.{Spot}
 use Rattle.fuxi_terms.specs.Numbers.{has_number}
 use Rattle.failover.specs.Reported.{are_all_in}
-use Rattle.written_roles.specs.Masters.{Master}
-use Rattle.written_roles.specs.Placing.{line_up, first_placeable}
-use Rattle.written_roles.specs.Settling.{IsFirst}
-use Rattle.written_roles.specs.MasterSteps.{phased, ready, is_all_reported}
-use Rattle.written_roles.specs.MasterRoles.{MasterRole}
+use Rattle.spec_roles.specs.Masters.{Master}
+use Rattle.spec_roles.specs.Placing.{line_up, first_placeable}
+use Rattle.spec_roles.specs.Settling.{IsFirst}
+use Rattle.spec_roles.specs.MasterSteps.{phased, ready, is_all_reported}
+use Rattle.spec_roles.specs.MasterRoles.{MasterRole}
 use Rattle.allotment.specs.Allotted.{AllotmentRecord, Allots}
-use Rattle.broadcast.specs.AllShown.{App}
+use Rattle.ledger_updates.specs.AllShown.{App}
 use Rattle.fuxi_master.specs.Cores.{CoreRecord, StandsWith}
 use Rattle.fuxi_master.specs.StepEnds.{IsReadied}
 use Rattle.fuxi_master.proofs.AllotsAlike.{allots_alike}

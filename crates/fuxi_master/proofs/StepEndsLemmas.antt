@@ -11,17 +11,17 @@ use Rattle.fuxi_terms.specs.Tables.{held, Table}
 use Rattle.fuxi_terms.specs.Limits.{most_steps}
 use Rattle.fuxi_terms.proofs.Alls.{all_more}
 use Rattle.grant_table.specs.GrantTables.{TableRecord, as_known}
-use Rattle.written_roles.specs.Masters.{Master, out}
-use Rattle.written_roles.specs.Placing.{has_pair, settled, first_placeable}
-use Rattle.written_roles.specs.Settling.{NothingPlaceable, Picks, IsFirst}
-use Rattle.written_roles.specs.MasterSteps.{ready}
-use Rattle.written_roles.specs.MasterRoles.{MasterRole, ends_alone}
+use Rattle.spec_roles.specs.Masters.{Master, out}
+use Rattle.spec_roles.specs.Placing.{has_pair, settled, first_placeable}
+use Rattle.spec_roles.specs.Settling.{NothingPlaceable, Picks, IsFirst}
+use Rattle.spec_roles.specs.MasterSteps.{ready}
+use Rattle.spec_roles.specs.MasterRoles.{MasterRole, ends_alone}
 use Rattle.place_pass.specs.Placers.{IsUpToDate}
 use Rattle.allotment.specs.Allotted.{AllotmentRecord, Allots, AllWait}
 use Rattle.allotment.specs.PlacingReads.{has_spot, record_of}
-use Rattle.broadcast.specs.Projections.{row_of}
-use Rattle.broadcast.specs.declared.grants.News.{News}
-use Rattle.broadcast.specs.AllShown.{Down, App, IsBefore, credited_after}
+use Rattle.ledger_updates.specs.Projections.{row_of}
+use Rattle.ledger_updates.specs.declared.grants.StepChanges.{StepChanges}
+use Rattle.ledger_updates.specs.AllShown.{Down, App, IsBefore, credited_after}
 use Rattle.fuxi_master.specs.Cores.{CoreRecord, IsKept, IsCore, IsWithin, IsWithinSoon, StandsWith, StandsFor}
 use Rattle.fuxi_master.specs.StepEnds.{IsCoreReadied, IsPublished}
 use Rattle.fuxi_master.specs.Steps.{IsMid, HasRole, StandsMid, forced_by}
@@ -30,7 +30,7 @@ use Rattle.fuxi_master.proofs.Projected.{units_alike}
 use Rattle.fuxi_master.proofs.Readied.{ready_again}
 use Rattle.fuxi_master.proofs.ToldAsHeardLemmas.{told_ends}
 
-module _ (x y : CoreRecord) (news : News) (readied : IsCoreReadied x y) where
+module _ (x y : CoreRecord) (news : StepChanges) (readied : IsCoreReadied x y) where
   z_table : y.allotment.table ≡ record x.allotment.table { entries = y.allotment.table.entries }
   z_table = readied.allotment.table
 
@@ -119,7 +119,7 @@ lined_as z c M up h a u =
 module _ (first : (c : ClusterRecord) (M : Master) (s : Spot) → first_placeable c M ≡ Some s → IsFirst c M s)
     (ends : (c : ClusterRecord) (M : Master) → NothingPlaceable c (settled c M))
     (runs : (c : ClusterRecord) (picks : List Spot) (M N : Master) → Picks c M picks N → N ≡ settled c M)
-    (x y v : CoreRecord) (news : News) (mid : IsMid x news) (readied : IsCoreReadied x y) (shown : IsPublished news y v) where
+    (x y v : CoreRecord) (news : StepChanges) (mid : IsMid x news) (readied : IsCoreReadied x y) (shown : IsPublished news y v) where
   pub ended_stands : (r : MasterRole) → StandsMid news x r → StandsFor v (ends_alone r.cluster r.sides r.state (forced_by news))
   ended_stands r h =
       let c = r.cluster in

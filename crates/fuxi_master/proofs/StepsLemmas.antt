@@ -14,20 +14,20 @@ use Rattle.fuxi_terms.proofs.Booleans.{both_true, nat_itself, and_false}
 use Rattle.schedule_unit.specs.declared.party.MachineNo.{MachineNo}
 use Rattle.party_ledgers.specs.declared.packets.Heard.{Heard}
 use Rattle.party_ledgers.specs.declared.packets.Packet.{Packet}
-use Rattle.written_net.specs.Net.{Id, Party, same_id, is_taken}
-use Rattle.written_net.specs.Ledgers.{Ledger}
-use Rattle.written_net.specs.Channels.{master_id, agent_id, app_id, is_agent}
-use Rattle.written_net.specs.Sides.{Side, HeardSide, Parcel, hears_side}
-use Rattle.written_roles.specs.Masters.{Master}
-use Rattle.written_roles.specs.Placing.{line_up}
-use Rattle.written_roles.specs.MasterSteps.{master_party, talks, settled_if_serving, is_all_reported, told_of, adopted_of, adopts, adopted, take_report, take_demand, meet_app, said}
-use Rattle.written_roles.specs.MasterRoles.{MasterRole, set_side, publish_alone, offers_alone, side_after, ends_alone, report_excess, MasterHeard, master_hears_alone, master_told}
-use Rattle.core_side.specs.Parcels.{packet_of, parcel_is}
-use Rattle.broadcast.specs.declared.grants.News.{News}
-use Rattle.broadcast.specs.AllShown.{Down}
+use Rattle.spec_net.specs.Net.{Id, Party, same_id, is_taken}
+use Rattle.spec_net.specs.Ledgers.{Ledger}
+use Rattle.spec_net.specs.Channels.{master_id, agent_id, app_id, is_agent}
+use Rattle.spec_net.specs.Sides.{Side, HeardSide, Parcel, hears_side}
+use Rattle.spec_roles.specs.Masters.{Master}
+use Rattle.spec_roles.specs.Placing.{line_up}
+use Rattle.spec_roles.specs.MasterSteps.{master_party, talks, settled_if_serving, is_all_reported, told_of, adopted_of, adopts, adopted, take_report, take_demand, meet_app, said}
+use Rattle.spec_roles.specs.MasterRoles.{MasterRole, set_side, publish_alone, offers_alone, side_after, ends_alone, report_excess, MasterHeard, master_hears_alone, master_told}
+use Rattle.peer_channel.specs.Parcels.{packet_of, parcel_is}
+use Rattle.ledger_updates.specs.declared.grants.StepChanges.{StepChanges}
+use Rattle.ledger_updates.specs.AllShown.{Down}
 use Rattle.fuxi_master.specs.Cores.{CoreRecord, IsNear, IsCore, HasBoots, IsWithin, IsWithinSoon, StandsFor}
 use Rattle.fuxi_master.specs.ToldAsHeard.{IsToldAsHeard, IsHeardOnly}
-use Rattle.fuxi_master.specs.Heard.{heard_of, with_heard, HearsAgent, HearsApp, Changes, IsNews, adopting, adopting_role, demanding}
+use Rattle.fuxi_master.specs.Heard.{heard_of, with_heard, HearsAgent, HearsApp, Changes, AreStepChanges, adopting, adopting_role, demanding}
 use Rattle.fuxi_master.specs.Steps.{HasRole, EndsAlike, HearsRole, agent_named, app_named, forced_by}
 use Rattle.fuxi_master.proofs.PeersSides.{same_peer}
 use Rattle.fuxi_master.proofs.Quiet.{quiet_ends}
@@ -44,12 +44,12 @@ pub soon : (n : ℕ) (x : CoreRecord) → IsWithin n x → IsWithinSoon n x
 soon n x w = record { agents = w.agents; apps = w.apps; turns = let t = w.turns in omega (arith, t) }
 
 -- in the middle of a step there is such a master by itself
-pub has_role : (news : News) (to : MasterRole → MasterRole) (x y : CoreRecord) (near : IsNear x) → Changes news to x y → IsToldAsHeard (λ _. false) (to near.role) → HasRole news y
+pub has_role : (news : StepChanges) (to : MasterRole → MasterRole) (x y : CoreRecord) (near : IsNear x) → Changes news to x y → IsToldAsHeard (λ _. false) (to near.role) → HasRole news y
 has_role news to x y near changes told = record { role = to near.role; stands = changes.stands near.role near.stands; told = told }
 
 -- a line that is up to date plays no part at the end
-pub ends_lined : (c : ClusterRecord) (sides : Id → Side) (M : Master) (forced : List Id) → line_up (line_up M) ≡ line_up M → ends_alone c sides (line_up M) forced ≡ ends_alone c sides M forced
-ends_lined c sides M forced e = ap {A = Master} (λ K. record { cluster = c; state = settled_if_serving c (record K { serving = M.serving || is_all_reported c M }); sides = publish_alone sides (offers_alone c sides (settled_if_serving c (record K { serving = M.serving || is_all_reported c M })) forced) }) e
+pub ends_lined : (c : ClusterRecord) (sides : Id → Side) (M : Master) (even_if_equal : List Id) → line_up (line_up M) ≡ line_up M → ends_alone c sides (line_up M) even_if_equal ≡ ends_alone c sides M even_if_equal
+ends_lined c sides M even_if_equal e = ap {A = Master} (λ K. record { cluster = c; state = settled_if_serving c (record K { serving = M.serving || is_all_reported c M }); sides = publish_alone sides (offers_alone c sides (settled_if_serving c (record K { serving = M.serving || is_all_reported c M })) even_if_equal) }) e
 
 -- a side that is put where it was
 put_back : (sides : Id → Side) (q : Id) → set_side sides q (sides q) ≡ sides
@@ -72,7 +72,7 @@ nothing_told M q l = elim (is_agent q) as (λ b. cond b (cond false (take_report
 nothing_adopted : (M : Master) (q : Id) (l : Ledger) → adopted_of M false q l ≡ []
 nothing_adopted M q l = elim (is_agent q) as (λ b. cond (b && false) (q ∷ []) [] ≡ []) [ true ↦ refl | false ↦ refl ]
 
-module _ (law : (c : ClusterRecord) (sides : Id → Side) (M : Master) (forced : List Id) (q : Id) → publish_alone sides (offers_alone c sides M forced) q ≡ side_after c sides M forced q) where
+module _ (law : (c : ClusterRecord) (sides : Id → Side) (M : Master) (even_if_equal : List Id) (q : Id) → publish_alone sides (offers_alone c sides M even_if_equal) q ≡ side_after c sides M even_if_equal q) where
   -- what is answered of a packet, and the role that it leads to
   abbrev Alike : CoreRecord → Heard → MasterHeard → Type 0
   Alike x heard t = (StandsFor x t.role) × (heard.fresh ≡ t.fresh) × (heard.what ≡ t.what)
@@ -124,17 +124,17 @@ module _ (law : (c : ClusterRecord) (sides : Id → Side) (M : Master) (forced :
       let taken = is_taken h.what in
       let none : (taken && adopts M m h.side.got) ≡ false = sym ha.due_is ∙ off in
       let state : told_of M h.fresh taken (agent_id m) h.side.got ≡ M = not_adopted M m h.side.got taken none in
-      let forced : adopted_of M taken (agent_id m) h.side.got ≡ [] = ap (λ b. cond b (agent_id m ∷ []) []) none in
+      let even_if_equal : adopted_of M taken (agent_id m) h.side.got ≡ [] = ap (λ b. cond b (agent_id m ∷ []) []) none in
       hears_from x packet heard r (told_by_peer r (agent_id m) packet) (from_peer packet r (agent_id m) from talk)
-      (subst (StandsFor x) (λ i. ends_alone c (set_side r.sides (agent_id m) h.side) (sym state i) (sym forced i)) (quiet_ends law x core (with_heard r (agent_id m) h) ha.role), ha.fresh, ha.says)
+      (subst (StandsFor x) (λ i. ends_alone c (set_side r.sides (agent_id m) h.side) (sym state i) (sym even_if_equal i)) (quiet_ends law x core (with_heard r (agent_id m) h) ha.role), ha.fresh, ha.says)
     where
       not_adopted : (M : Master) (m : ℕ) (l : Ledger) (t : Bool) → (t && adopts M m l) ≡ false → cond t (take_report M m l) M ≡ M
       not_adopted M m l true e = ap (λ b. cond b (record M { reported = with_number m M.reported; table = cond (has_number m M.bans) M.table (adopted M.jobs m l.rows M.table) }) M) e
       not_adopted M m l false e = refl
 
   -- one that brings such a report
-  pub agent_adopted : (x y v : CoreRecord) (machine : MachineNo) (packet : Packet) (heard : Heard) (due : Bool) (news : News) (r : MasterRole) → HearsAgent machine.0 packet heard due x r → due ≡ true → (packet_of packet).from.id ≡ agent_id machine.0 → talks r.cluster r.state (agent_id machine.0) ≡ true
-      → IsNews (Some machine) None news → Changes news (adopting_role machine.0) x y → ((s : MasterRole) → StandsFor x s → line_up (adopting_role machine.0 s).state ≡ (adopting_role machine.0 s).state) → EndsAlike news y v → HearsRole packet v heard r
+  pub agent_adopted : (x y v : CoreRecord) (machine : MachineNo) (packet : Packet) (heard : Heard) (due : Bool) (news : StepChanges) (r : MasterRole) → HearsAgent machine.0 packet heard due x r → due ≡ true → (packet_of packet).from.id ≡ agent_id machine.0 → talks r.cluster r.state (agent_id machine.0) ≡ true
+      → AreStepChanges (Some machine) None news → Changes news (adopting_role machine.0) x y → ((s : MasterRole) → StandsFor x s → line_up (adopting_role machine.0 s).state ≡ (adopting_role machine.0 s).state) → EndsAlike news y v → HearsRole packet v heard r
   agent_adopted x y v machine packet heard due news r ha on from talk is changes lined ends =
       let m = machine.0 in
       let c = r.cluster in
@@ -145,12 +145,12 @@ module _ (law : (c : ClusterRecord) (sides : Id → Side) (M : Master) (forced :
       let r1 = with_heard r (agent_id m) h in
       let ended = ends (adopting_role m r1) (changes.stands r1 ha.role) in
       let got : (r1.sides (agent_id m)).got ≡ h.side.got = ap (λ (e : Side). e.got) (heard_side r (agent_id m) h) in
-      let forced : forced_by news ≡ agent_id m ∷ [] = (λ i. agent_named (is.reported_is i) ++ app_named (is.admitted_is i)) in
+      let even_if_equal : forced_by news ≡ agent_id m ∷ [] = (λ i. agent_named (is.reported_is i) ++ app_named (is.admitted_is i)) in
       let state : told_of M h.fresh taken (agent_id m) h.side.got ≡ adopting M m h.side.got = (λ i. cond (both.0 i) (cond (both.1 i) (adopting M m h.side.got) M) M) in
       let due_one : adopted_of M taken (agent_id m) h.side.got ≡ agent_id m ∷ [] = (λ i. cond (both.0 i && both.1 i) (agent_id m ∷ []) []) in
       hears_from v packet heard r (told_by_peer r (agent_id m) packet) (from_peer packet r (agent_id m) from talk) (
         subst (StandsFor v) (ends_lined c r1.sides (adopting M m (r1.sides (agent_id m)).got) (forced_by news) (lined r1 ha.role)
-            ∙ (λ i. ends_alone c r1.sides (adopting M m (got i)) (forced i)) ∙ (λ i. ends_alone c r1.sides (sym state i) (sym due_one i))) ended,
+            ∙ (λ i. ends_alone c r1.sides (adopting M m (got i)) (even_if_equal i)) ∙ (λ i. ends_alone c r1.sides (sym state i) (sym due_one i))) ended,
         ha.fresh,
         ha.says,
       )
@@ -184,7 +184,7 @@ module _ (law : (c : ClusterRecord) (sides : Id → Side) (M : Master) (forced :
       app_kept x (app_quiet_core x near heard.fresh (is_taken heard.what) a boots only old kept) a packet heard r ha old kept from talk
 
   -- one that does
-  pub app_changed : (x y v : CoreRecord) (a : ℕ) (packet : Packet) (heard : Heard) (taken : Bool) (news : News) (r : MasterRole) → HearsApp a packet heard x r → taken ≡ is_taken heard.what → (packet_of packet).from.id ≡ app_id a → talks r.cluster r.state (app_id a) ≡ true
+  pub app_changed : (x y v : CoreRecord) (a : ℕ) (packet : Packet) (heard : Heard) (taken : Bool) (news : StepChanges) (r : MasterRole) → HearsApp a packet heard x r → taken ≡ is_taken heard.what → (packet_of packet).from.id ≡ app_id a → talks r.cluster r.state (app_id a) ≡ true
       → (news.reported ≡ None) × (news.admitted ≡ None) → Changes news (λ s. demanding heard.fresh taken s a) x y → EndsAlike news y v → HearsRole packet v heard r
   app_changed x y v a packet heard taken news r ha is from talk none changes ends =
       let c = r.cluster in
@@ -193,9 +193,9 @@ module _ (law : (c : ClusterRecord) (sides : Id → Side) (M : Master) (forced :
       let r1 = with_heard r (app_id a) h in
       let ended = ends (demanding heard.fresh taken r1 a) (changes.stands r1 ha.role) in
       let got : (r1.sides (app_id a)).got ≡ h.side.got = ap (λ (e : Side). e.got) (heard_side r (app_id a) h) in
-      let forced : forced_by news ≡ [] = (λ i. agent_named (none.0 i) ++ app_named (none.1 i)) in
+      let even_if_equal : forced_by news ≡ [] = (λ i. agent_named (none.0 i) ++ app_named (none.1 i)) in
       hears_from v packet heard r (told_by_peer r (app_id a) packet) (from_peer packet r (app_id a) from talk)
-      (subst (StandsFor v) (λ i. ends_alone c r1.sides (told_of M (ha.fresh i) ((is ∙ ap is_taken ha.says) i) (app_id a) (said c M (app_id a) (got i))) (forced i)) ended, ha.fresh, ha.says)
+      (subst (StandsFor v) (λ i. ends_alone c r1.sides (told_of M (ha.fresh i) ((is ∙ ap is_taken ha.says) i) (app_id a) (said c M (app_id a) (got i))) (even_if_equal i)) ended, ha.fresh, ha.says)
 
 -- with whom a master talks
 pub agent_talks : (x : CoreRecord) (r : MasterRole) → StandsFor x r → (m : ℕ) → m < length x.allotment.table.cluster.machines → talks r.cluster r.state (agent_id m) ≡ true

@@ -8,10 +8,10 @@ use Rattle.fuxi_terms.specs.declared.Key.{Key}
 use Rattle.fuxi_terms.specs.Jobs.{is_known}
 use Rattle.hard_state.specs.Knowledge.{Knowledge}
 use Rattle.failover.specs.Reported.{Reported}
-use Rattle.written_roles.specs.Masters.{Master, credited_of}
-use Rattle.written_roles.specs.MasterRoles.{MasterRole}
+use Rattle.spec_roles.specs.Masters.{Master, credited_of}
+use Rattle.spec_roles.specs.MasterRoles.{MasterRole}
 use Rattle.allotment.specs.Allotted.{AllotmentRecord, Allots}
-use Rattle.broadcast.specs.AllShown.{App}
+use Rattle.ledger_updates.specs.AllShown.{App}
 use Rattle.fuxi_master.specs.Cores.{CoreRecord, IsTidy, StandsWith, StandsFor}
 use Rattle.fuxi_terms.proofs.NumbersLemmas.{same_number}
 

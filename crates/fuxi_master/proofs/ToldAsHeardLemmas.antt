@@ -11,15 +11,15 @@ use Rattle.fuxi_terms.specs.Counts.{count}
 use Rattle.fuxi_terms.specs.Keys.{key_cmp}
 use Rattle.fuxi_terms.specs.TallyKeys.{back_key, credited_key}
 use Rattle.fuxi_terms.proofs.Booleans.{nat_itself, number_is, and_false, or_false, eq_turned}
-use Rattle.written_net.specs.Net.{Id}
-use Rattle.written_net.specs.Ledgers.{Ledger, nothing, at_key, tally_ledger}
-use Rattle.written_net.specs.Channels.{app_id}
-use Rattle.written_net.specs.Sides.{Side, new_side, resynced_side}
-use Rattle.written_roles.specs.HardState.{with_job, with_ended}
-use Rattle.written_roles.specs.Masters.{Master, demand_of, credited_of}
-use Rattle.written_roles.specs.Placing.{line_up}
-use Rattle.written_roles.specs.MasterSteps.{is_there, counted, credit, raise_credited, phased, ready, meet_app, take_demand, told_of, ended_in, is_one_of, peers}
-use Rattle.written_roles.specs.MasterRoles.{MasterRole, publish_alone, offers_alone, ends_alone, master_resynced}
+use Rattle.spec_net.specs.Net.{Id}
+use Rattle.spec_net.specs.Ledgers.{Ledger, nothing, at_key, tally_ledger}
+use Rattle.spec_net.specs.Channels.{app_id}
+use Rattle.spec_net.specs.Sides.{Side, new_side, resynced_side}
+use Rattle.spec_roles.specs.HardState.{with_job, with_ended}
+use Rattle.spec_roles.specs.Masters.{Master, demand_of, credited_of}
+use Rattle.spec_roles.specs.Placing.{line_up}
+use Rattle.spec_roles.specs.MasterSteps.{is_there, counted, credit, raise_credited, phased, ready, meet_app, take_demand, told_of, ended_in, is_one_of, peers}
+use Rattle.spec_roles.specs.MasterRoles.{MasterRole, publish_alone, offers_alone, ends_alone, master_resynced}
 use Rattle.fuxi_master.specs.Cores.{CoreRecord, StandsFor}
 use Rattle.fuxi_master.specs.Commands.{changed_by, admitting}
 use Rattle.fuxi_master.specs.Heard.{demanding}
@@ -45,13 +45,13 @@ told_alike but c M N sides after epoch jobs demands credited got t = record {
 }
 
 -- the end of a step
-pub told_ends : (but : ℕ → Bool) (r : MasterRole) (forced : List Id) → IsToldAsHeard but r → IsToldAsHeard but (ends_alone r.cluster r.sides r.state forced)
-told_ends but r forced t =
+pub told_ends : (but : ℕ → Bool) (r : MasterRole) (even_if_equal : List Id) → IsToldAsHeard but r → IsToldAsHeard but (ends_alone r.cluster r.sides r.state even_if_equal)
+told_ends but r even_if_equal t =
     let c = r.cluster in
     let L = line_up (phased c r.state) in
     let same = serving_same c L in
-    told_alike but c r.state (ready c r.state) r.sides (publish_alone r.sides (offers_alone c r.sides (ready c r.state) forced)) same.epoch same.jobs same.demands same.credited
-    (λ a. published_got (offers_alone c r.sides (ready c r.state) forced) r.sides (app_id a)) t
+    told_alike but c r.state (ready c r.state) r.sides (publish_alone r.sides (offers_alone c r.sides (ready c r.state) even_if_equal)) same.epoch same.jobs same.demands same.credited
+    (λ a. published_got (offers_alone c r.sides (ready c r.state) even_if_equal) r.sides (app_id a)) t
 
 -- a resync
 pub told_resynced : (r : MasterRole) → IsToldAsHeard (λ _. false) r → IsToldAsHeard (λ _. false) (master_resynced r)
@@ -63,8 +63,8 @@ told_resynced r t = told_alike (λ _. false) r.cluster r.state r.state r.sides (
     by false e = refl
 
 -- a start: nothing was received
-pub told_first : (c : ClusterRecord) (M : Master) (forced : List Id) → 0 < M.epoch → M.demands ≡ [] → IsToldAsHeard (λ _. false) (ends_alone c (λ q. new_side) M forced)
-told_first c M forced positive none = told_ends (λ _. false) (record { cluster = c; state = M; sides = λ q. new_side }) forced
+pub told_first : (c : ClusterRecord) (M : Master) (even_if_equal : List Id) → 0 < M.epoch → M.demands ≡ [] → IsToldAsHeard (λ _. false) (ends_alone c (λ q. new_side) M even_if_equal)
+told_first c M even_if_equal positive none = told_ends (λ _. false) (record { cluster = c; state = M; sides = λ q. new_side }) even_if_equal
     (record {
       told = λ a off live head. absurd (let zero : 0 ≡ M.epoch = head in omega (arith, positive, zero));
       credits = λ a u m off. subst (λ (ds : List (ℕ × Ledger)). at_key (unwrap_or (find nat_cmp a ds) nothing) (back_key u m) ≤ count key_cmp (credited_of M a) (credited_key u m)) (sym none) (omega arith);

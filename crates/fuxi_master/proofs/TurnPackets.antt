@@ -18,16 +18,16 @@ use Rattle.ledger_law.specs.Shapes.{IsTally}
 use Rattle.schedule_unit.specs.declared.party.Role.{Role}
 use Rattle.schedule_unit.specs.declared.party.Role.TheVariants.{Master as AsMaster, Agent as AsAgent, App as AsApp}
 use Rattle.party_ledgers.specs.declared.packets.Packet.{Packet}
-use Rattle.written_net.specs.Net.{Id}
-use Rattle.written_net.specs.Ledgers.{row_ledger}
-use Rattle.written_net.specs.Channels.{agent_id, app_id}
-use Rattle.written_net.specs.Sides.{Parcel, turn_parcels}
-use Rattle.written_roles.specs.MasterSteps.{master_party}
-use Rattle.written_roles.specs.MasterRoles.{MasterRole}
-use Rattle.core_side.specs.Bodies.{report_of, tally_of}
-use Rattle.core_side.specs.Parcels.{parcel_is}
-use Rattle.core_side.specs.Sending.{TurnsAlike}
-use Rattle.broadcast.specs.AllShown.{Down, App}
+use Rattle.spec_net.specs.Net.{Id}
+use Rattle.spec_net.specs.Ledgers.{row_ledger}
+use Rattle.spec_net.specs.Channels.{agent_id, app_id}
+use Rattle.spec_net.specs.Sides.{Parcel, turn_parcels}
+use Rattle.spec_roles.specs.MasterSteps.{master_party}
+use Rattle.spec_roles.specs.MasterRoles.{MasterRole}
+use Rattle.peer_channel.specs.Bodies.{report_of, tally_of}
+use Rattle.peer_channel.specs.Parcels.{parcel_is}
+use Rattle.peer_channel.specs.Sending.{TurnsAlike}
+use Rattle.ledger_updates.specs.AllShown.{Down, App}
 use Rattle.fuxi_master.specs.Cores.{CoreRecord, IsDown, IsApp, IsKept, StandsFor, patched_grants}
 use Rattle.fuxi_master.specs.Steps.{is_peer}
 

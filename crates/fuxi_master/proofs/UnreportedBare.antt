@@ -17,10 +17,10 @@ use Rattle.fuxi_terms.proofs.Alls.{all_mapped, all_flat, all_passed}
 use Rattle.fuxi_terms.proofs.Booleans.{both_true, both_false, nat_itself}
 use Rattle.fuxi_terms.proofs.CountsLemmas.{count-set_count, tied}
 use Rattle.fuxi_terms.proofs.KeyOrders.{spot_total, same_spot}
-use Rattle.written_roles.specs.Masters.{Master}
-use Rattle.written_roles.specs.MasterSteps.{adopted, credit, is_kept}
-use Rattle.written_roles.specs.Placing.{Board, board, accepts, is_usable}
-use Rattle.written_roles.specs.Preemption.{Plan, by_priority_in, tried, victims_in, first_plan_in, plan_of, preempted}
+use Rattle.spec_roles.specs.Masters.{Master}
+use Rattle.spec_roles.specs.MasterSteps.{adopted, credit, is_kept}
+use Rattle.spec_roles.specs.Placing.{Board, board, accepts, is_usable}
+use Rattle.spec_roles.specs.Preemption.{Plan, by_priority_in, tried, victims_in, first_plan_in, plan_of, preempted}
 use Rattle.fuxi_master.specs.Cores.{IsTidy}
 use Rattle.fuxi_terms.proofs.NumbersLemmas.{with_is}
 

@@ -16,9 +16,9 @@ use Rattle.fuxi_terms.proofs.Alls.{all_filter, all_map, all_more}
 use Rattle.fuxi_terms.proofs.Booleans.{and_true, false_and, false_right, number_is, numbers_differ}
 use Rattle.fuxi_terms.proofs.Lists.{all_push, take_last}
 use Rattle.schedule_unit.specs.declared.party.UnitNo.{UnitNo}
-use Rattle.written_roles.specs.Masters.{avoids}
-use Rattle.written_roles.specs.MasterRoles.{MasterRole}
-use Rattle.written_roles.specs.Votes.{VotesRecord, is_wanted, marks, most_votes, votes_in, votes_of}
+use Rattle.spec_roles.specs.Masters.{avoids}
+use Rattle.spec_roles.specs.MasterRoles.{MasterRole}
+use Rattle.spec_roles.specs.Votes.{VotesRecord, is_wanted, marks, most_votes, votes_in, votes_of}
 use Rattle.allotment.specs.PlacingReads.{IsPlacing}
 use Rattle.fuxi_master.specs.Cores.{CoreRecord, IsCore, StandsFor}
 use Rattle.fuxi_master.specs.VoteCounts.{AddsVotes, HasCounted, IsCounted, all_avoid, is_asked}

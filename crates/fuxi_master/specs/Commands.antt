@@ -4,19 +4,19 @@ use Rattle.std.specs.FinMap.Entries.{where_key}
 use Rattle.fuxi_terms.specs.Cluster.{ClusterRecord, JobRecord}
 use Rattle.fuxi_terms.specs.Keys.{spot_cmp}
 use Rattle.fuxi_terms.specs.Numbers.{has_number, without_number}
-use Rattle.written_roles.specs.HardState.{with_job}
-use Rattle.written_roles.specs.Masters.{Master}
-use Rattle.written_roles.specs.Placing.{line_up}
-use Rattle.written_roles.specs.Preemption.{Plan, plan_of, preempted}
-use Rattle.written_roles.specs.MasterRoles.{MasterRole}
+use Rattle.spec_roles.specs.HardState.{with_job}
+use Rattle.spec_roles.specs.Masters.{Master}
+use Rattle.spec_roles.specs.Placing.{line_up}
+use Rattle.spec_roles.specs.Preemption.{Plan, plan_of, preempted}
+use Rattle.spec_roles.specs.MasterRoles.{MasterRole}
 use Rattle.allotment.specs.SettlingRuns.{AreTouched}
 use Rattle.allotment.specs.Allotted.{AllotmentRecord, Allots, AllWait, Touches}
-use Rattle.broadcast.specs.declared.grants.News.{News}
-use Rattle.broadcast.specs.AllShown.{App}
+use Rattle.ledger_updates.specs.declared.grants.StepChanges.{StepChanges}
+use Rattle.ledger_updates.specs.AllShown.{App}
 use Rattle.place_pass.specs.Placers.{IsUpToDate}
 use Rattle.fuxi_master.specs.Cores.{CoreRecord, StandsFor, IsWithin, IsWithinSoon}
 use Rattle.fuxi_master.specs.Steps.{IsMid, StandsMid}
-use Rattle.fuxi_master.specs.Heard.{IsNews}
+use Rattle.fuxi_master.specs.Heard.{AreStepChanges}
 
 -- a command changes the state and no side
 abbrev pub changed_by : (Master → Master) → MasterRole → MasterRole
@@ -69,17 +69,17 @@ pub record IsPreempted (found : Bool) (x y : AllotmentRecord) : Type 0 where
   pub turns : y.placer.seen.turns ≤ x.placer.seen.turns + 2048
 
 -- the same of a core, before the end of the step
-pub record RoomIsMade (news : News) (new : CoreRecord) (r : MasterRole) : Type 0 where
+pub record RoomIsMade (news : StepChanges) (new : CoreRecord) (r : MasterRole) : Type 0 where
   pub plan : Plan
   pub planned : plan_of r.cluster r.state ≡ Some plan
   pub stands : StandsMid news new (changed_by (λ M. line_up (preempted M plan)) r)
   pub lined : line_up (line_up (preempted r.state plan)) ≡ line_up (preempted r.state plan)
 
-pub record MakesRoom (news : News) (old new : CoreRecord) : Type 0 where
+pub record MakesRoom (news : StepChanges) (old new : CoreRecord) : Type 0 where
   pub mid : IsMid new news
   pub made : (r : MasterRole) → StandsFor old r → RoomIsMade news new r
   pub within : (n : ℕ) → IsWithin n old → IsWithinSoon n new
 
 abbrev pub Preempts : Bool → CoreRecord → CoreRecord → Type 0
 Preempts false old new = (new ≡ old) × ((r : MasterRole) → StandsFor old r → plan_of r.cluster r.state ≡ None)
-Preempts true old new = (news : News) → IsNews None None news → MakesRoom news old new
+Preempts true old new = (news : StepChanges) → AreStepChanges None None news → MakesRoom news old new

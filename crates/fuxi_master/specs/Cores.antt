@@ -15,22 +15,22 @@ use Rattle.fuxi_terms.specs.declared.Key.{Key}
 use Rattle.fuxi_terms.specs.declared.answers.LedgerFault.{LedgerFault}
 use Rattle.fuxi_terms.specs.declared.answers.LedgerFault.TheVariants.{Below, TooGreat}
 use Rattle.ledger_law.specs.Shapes.{IsTally}
-use Rattle.written_net.specs.Ledgers.{row_ledger}
-use Rattle.written_net.specs.Channels.{agent_id, app_id}
-use Rattle.written_net.specs.Sides.{Side, new_side}
-use Rattle.written_roles.specs.Masters.{Master, credited_of}
-use Rattle.written_roles.specs.MasterSteps.{ready}
-use Rattle.written_roles.specs.MasterRoles.{MasterRole}
-use Rattle.core_side.specs.Bodies.{report_of, tally_of}
-use Rattle.core_side.specs.CoreSides.{IsSide}
+use Rattle.spec_net.specs.Ledgers.{row_ledger}
+use Rattle.spec_net.specs.Channels.{agent_id, app_id}
+use Rattle.spec_net.specs.Sides.{Side, new_side}
+use Rattle.spec_roles.specs.Masters.{Master, credited_of}
+use Rattle.spec_roles.specs.MasterSteps.{ready}
+use Rattle.spec_roles.specs.MasterRoles.{MasterRole}
+use Rattle.peer_channel.specs.Bodies.{report_of, tally_of}
+use Rattle.peer_channel.specs.CoreSides.{IsSide}
 use Rattle.grant_table.specs.GrantTables.{as_known}
 use Rattle.hard_state.specs.Knowledge.{Knowledge}
 use Rattle.failover.specs.Reported.{Reported}
 use Rattle.place_pass.specs.Placers.{IsUpToDate}
 use Rattle.allotment.specs.PlacingReads.{record_of}
 use Rattle.allotment.specs.Allotted.{AllotmentRecord, Allots, AllWait}
-use Rattle.broadcast.specs.Projections.{row_of}
-use Rattle.broadcast.specs.AllShown.{Down, App, ShowsJob, credited_in}
+use Rattle.ledger_updates.specs.Projections.{row_of}
+use Rattle.ledger_updates.specs.AllShown.{Down, App, ShowsJob, credited_in}
 use Rattle.fuxi_master.specs.ToldAsHeard.{IsToldAsHeard}
 
 -- its epoch, what it knows of jobs and bans, whether it serves, the machines that are reported, the grants with their placer, and its ends

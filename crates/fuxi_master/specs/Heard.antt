@@ -13,27 +13,27 @@ use Rattle.fuxi_terms.specs.TallyKeys.{credited_key, credited_what, greatest_gra
 use Rattle.fuxi_terms.specs.Vectors.{fits}
 use Rattle.party_ledgers.specs.declared.packets.Heard.{Heard}
 use Rattle.party_ledgers.specs.declared.packets.Packet.{Packet}
-use Rattle.written_net.specs.Net.{Id, is_taken}
-use Rattle.written_net.specs.Channels.{agent_id, app_id}
-use Rattle.written_net.specs.Sides.{HeardSide, hears_side}
-use Rattle.written_roles.specs.Masters.{Master}
-use Rattle.written_roles.specs.Placing.{line_up}
+use Rattle.spec_net.specs.Net.{Id, is_taken}
+use Rattle.spec_net.specs.Channels.{agent_id, app_id}
+use Rattle.spec_net.specs.Sides.{HeardSide, hears_side}
+use Rattle.spec_roles.specs.Masters.{Master}
+use Rattle.spec_roles.specs.Placing.{line_up}
 use Rattle.std.specs.Ordering.{nat_cmp}
 use Rattle.std.specs.FinMap.Entries.{put, is_sorted}
 use Rattle.fuxi_terms.specs.NumbersSet.{AreNumbers}
-use Rattle.written_net.specs.Ledgers.{Ledger, nothing, tally_ledger}
+use Rattle.spec_net.specs.Ledgers.{Ledger, nothing, tally_ledger}
 use Rattle.allotment.specs.Allotted.{AllotmentRecord, Allots, Touches, newly_credited}
-use Rattle.written_roles.specs.MasterSteps.{master_party, adopts, adopted, told_of, said, counted, credit}
+use Rattle.spec_roles.specs.MasterSteps.{master_party, adopts, adopted, told_of, said, counted, credit}
 use Rattle.fuxi_terms.specs.Cluster.{ClusterRecord, machine_of}
 use Rattle.fuxi_terms.specs.Padded.{padded}
 use Rattle.schedule_unit.specs.declared.party.MachineNo.{MachineNo}
 use Rattle.schedule_unit.specs.declared.party.AppNo.{AppNo}
-use Rattle.written_roles.specs.MasterRoles.{MasterRole, set_side, report_excess}
-use Rattle.core_side.specs.Parcels.{parcel_is}
+use Rattle.spec_roles.specs.MasterRoles.{MasterRole, set_side, report_excess}
+use Rattle.peer_channel.specs.Parcels.{parcel_is}
 use Rattle.hard_state.specs.Knowledge.{Knowledge}
 use Rattle.failover.specs.KeptReports.{kept_entries, kept_of}
-use Rattle.broadcast.specs.declared.grants.News.{News}
-use Rattle.broadcast.specs.AllShown.{Down, App}
+use Rattle.ledger_updates.specs.declared.grants.StepChanges.{StepChanges}
+use Rattle.ledger_updates.specs.AllShown.{Down, App}
 use Rattle.fuxi_terms.specs.Jobs.{unit_count}
 use Rattle.grant_table.specs.GrantTables.{as_known}
 use Rattle.fuxi_master.specs.Cores.{CoreRecord, StandsFor, IsNear, HasBoots, IsCore, IsWithin, IsWithinSoon}
@@ -89,13 +89,13 @@ abbrev pub adopting_role : ℕ → MasterRole → MasterRole
 adopting_role m r = record { cluster = r.cluster; state = line_up (adopting r.state m (r.sides (agent_id m)).got); sides = r.sides }
 
 -- a change of the master's state and of a side, that is not shown yet: to says what role it makes
-pub record Changes (news : News) (to : MasterRole → MasterRole) (old new : CoreRecord) : Type 0 where
+pub record Changes (news : StepChanges) (to : MasterRole → MasterRole) (old new : CoreRecord) : Type 0 where
   pub mid : IsMid new news
   pub stands : (r : MasterRole) → StandsFor old r → StandsMid news new (to r)
   pub within : (n : ℕ) → IsWithin n old → IsWithinSoon n new
 
 -- news with nothing credited
-pub record IsNews (reported : Option MachineNo) (admitted : Option AppNo) (news : News) : Type 0 where
+pub record AreStepChanges (reported : Option MachineNo) (admitted : Option AppNo) (news : StepChanges) : Type 0 where
   pub reported_is : news.reported ≡ reported
   pub admitted_is : news.admitted ≡ admitted
   pub job_is : news.job ≡ None
@@ -103,8 +103,8 @@ pub record IsNews (reported : Option MachineNo) (admitted : Option AppNo) (news 
   pub credited_is : news.credited.items ≡ []
 
 -- the report of a machine is adopted, and the line brought up to date
-pub record IsAdopted (machine : MachineNo) (news : News) (old new : CoreRecord) : Type 0 where
-  pub named : IsNews (Some machine) None news
+pub record IsAdopted (machine : MachineNo) (news : StepChanges) (old new : CoreRecord) : Type 0 where
+  pub named : AreStepChanges (Some machine) None news
   pub changes : Changes news (adopting_role machine.0) old new
   pub lined : (r : MasterRole) → StandsFor old r → line_up (adopting_role machine.0 r).state ≡ (adopting_role machine.0 r).state
 
@@ -152,7 +152,7 @@ pub record IsDemanded (a : ℕ) (fresh live : Bool) (d : App) (x y : AllotmentRe
   pub kinds : AllByRecursion (λ e. nat_eq e.0.what credited_what ≡ true) numbers
 
 -- news of what is credited to a job
-pub record IsCredit (app : AppNo) (numbers : List (Key × ℕ)) (news : News) : Type 0 where
+pub record IsCredit (app : AppNo) (numbers : List (Key × ℕ)) (news : StepChanges) : Type 0 where
   pub reported_is : news.reported ≡ None
   pub admitted_is : news.admitted ≡ None
   pub job_is : news.job ≡ Some app

@@ -3,13 +3,13 @@ use Rattle.std.specs.Prelude.{◌≡◌, ℕ, true, false, nat_lt, List, [], ◌
 use Rattle.fuxi_terms.specs.Cluster.{ClusterRecord}
 use Rattle.fuxi_terms.specs.Jobs.{KnownJob, is_known}
 use Rattle.fuxi_terms.specs.Tallies.{empty_tally}
-use Rattle.written_net.specs.Ledgers.{nothing, tally_ledger}
-use Rattle.written_net.specs.Sides.{Side, new_side}
-use Rattle.written_roles.specs.Masters.{Master}
+use Rattle.spec_net.specs.Ledgers.{nothing, tally_ledger}
+use Rattle.spec_net.specs.Sides.{Side, new_side}
+use Rattle.spec_roles.specs.Masters.{Master}
 use Rattle.grant_table.specs.GrantTables.{as_known}
 use Rattle.allotment.specs.PlacingReads.{record_of}
 use Rattle.allotment.specs.Allotted.{AllotmentRecord, Allots, AllWait}
-use Rattle.broadcast.specs.AllShown.{Down, App}
+use Rattle.ledger_updates.specs.AllShown.{Down, App}
 use Rattle.fuxi_master.specs.Cores.{IsDown, IsApp}
 
 -- the end of a channel with an agent that nothing was shown to

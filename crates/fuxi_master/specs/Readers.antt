@@ -4,8 +4,8 @@ use Rattle.std.specs.Option.{unwrap_or, option_map}
 use Rattle.delta_channel.specs.declared.receiver.Place.{Place}
 use Rattle.schedule_unit.specs.declared.party.Role.{Role}
 use Rattle.schedule_unit.specs.declared.party.Role.TheVariants.{Master as AsMaster, Agent as AsAgent, App as AsApp}
-use Rattle.written_net.specs.Sides.{Side}
-use Rattle.broadcast.specs.AllShown.{Down, App}
+use Rattle.spec_net.specs.Sides.{Side}
+use Rattle.ledger_updates.specs.AllShown.{Down, App}
 use Rattle.fuxi_master.specs.Cores.{CoreRecord}
 
 abbrev pub slot_at : List (Option App) → ℕ → Option App

@@ -1,5 +1,5 @@
 -- Ends of channels of which nothing counts as acknowledged.
-use Rattle.broadcast.specs.AllShown.{Down, App}
+use Rattle.ledger_updates.specs.AllShown.{Down, App}
 
 abbrev pub agent_forgotten : Down → Down
 agent_forgotten d = record { outgoing = d.outgoing; incoming = d.incoming; acked = 0 }

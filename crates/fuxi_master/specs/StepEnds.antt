@@ -3,17 +3,17 @@ use Rattle.std.specs.Prelude.{◌≡◌, ℕ, ◌+◌, ◌≤◌, Bool, List, []
 use Rattle.std.specs.List.{AllByRecursion}
 use Rattle.fuxi_terms.specs.Cluster.{ClusterRecord}
 use Rattle.fuxi_terms.specs.declared.Key.{Key}
-use Rattle.written_roles.specs.Masters.{Master}
-use Rattle.written_roles.specs.Placing.{line_up}
-use Rattle.written_roles.specs.MasterSteps.{ready, settled_if_serving}
-use Rattle.written_roles.specs.MasterRoles.{MasterRole, publish_alone, offers_alone}
+use Rattle.spec_roles.specs.Masters.{Master}
+use Rattle.spec_roles.specs.Placing.{line_up}
+use Rattle.spec_roles.specs.MasterSteps.{ready, settled_if_serving}
+use Rattle.spec_roles.specs.MasterRoles.{MasterRole, publish_alone, offers_alone}
 use Rattle.grant_table.specs.GrantTables.{as_known}
-use Rattle.broadcast.specs.Projections.{row_of}
-use Rattle.broadcast.specs.declared.grants.News.{News}
+use Rattle.ledger_updates.specs.Projections.{row_of}
+use Rattle.ledger_updates.specs.declared.grants.StepChanges.{StepChanges}
 use Rattle.place_pass.specs.Placers.{IsUpToDate}
 use Rattle.allotment.specs.SettlingRuns.{AreTouched}
 use Rattle.allotment.specs.Allotted.{AllotmentRecord, Allots, AllWait}
-use Rattle.broadcast.specs.AllShown.{Down, App, ShowsJob}
+use Rattle.ledger_updates.specs.AllShown.{Down, App, ShowsJob}
 use Rattle.fuxi_master.specs.Cores.{CoreRecord, IsKept, StandsWith, shown_credited}
 use Rattle.fuxi_master.specs.Steps.{StandsMid, forced_by}
 
@@ -33,7 +33,7 @@ pub record IsCoreReadied (x y : CoreRecord) : Type 0 where
   pub rest : y ≡ record x { serving = y.serving; allotment = y.allotment }
 
 -- each peer is shown what it should hold: one entry more at most, and nothing else changes but that no spot is touched any more
-pub record IsPublished (news : News) (x y : CoreRecord) : Type 0 where
+pub record IsPublished (news : StepChanges) (x y : CoreRecord) : Type 0 where
   pub kept : IsKept y
   pub rows : (m : ℕ) (d : Down) → slice_get y.agents m ≡ Some d → d.outgoing.present ≡ row_of (as_known y.allotment.table.jobs) m y.allotment.table.entries
   pub boots : (a : ℕ) (d : App) → slice_get y.apps a ≡ Some (Some d) → d.outgoing.present.head ≡ d.incoming.place.inc

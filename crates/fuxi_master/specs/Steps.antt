@@ -15,15 +15,15 @@ use Rattle.party_ledgers.specs.declared.packets.Heard.{Heard}
 use Rattle.party_ledgers.specs.declared.packets.Packet.{Packet}
 use Rattle.party_ledgers.specs.declared.packets.Kind.TheVariants.{End}
 use Rattle.party_ledgers.specs.Packets.{IsFormed}
-use Rattle.written_net.specs.Net.{Id}
-use Rattle.written_net.specs.Channels.{agent_id, app_id}
-use Rattle.written_roles.specs.Refusals.{Refusal, AlreadyServing as SaysAlready, NotServing as SaysNot, NothingToPreempt as SaysNothing}
-use Rattle.written_roles.specs.MasterSteps.{Admits, Ends, Bans, Unbans, Begins, Preempts}
-use Rattle.written_roles.specs.MasterRoles.{MasterRole, ends_alone, MasterTold, Comes, Told, TurnAll, TurnTo as TurnToOne, ResyncAll, MasterAnswer, Done as IsDone, RefusedAs, Sent as SentAs, HeardAs, MasterStepped, master_steps_alone, master_hears_alone, report_excess}
-use Rattle.core_side.specs.Parcels.{id_of, parcel_is, IsSent}
+use Rattle.spec_net.specs.Net.{Id}
+use Rattle.spec_net.specs.Channels.{agent_id, app_id}
+use Rattle.spec_roles.specs.Refusals.{Refusal, AlreadyServing as SaysAlready, NotServing as SaysNot, NothingToPreempt as SaysNothing}
+use Rattle.spec_roles.specs.MasterSteps.{Admits, Ends, Bans, Unbans, Begins, Preempts}
+use Rattle.spec_roles.specs.MasterRoles.{MasterRole, ends_alone, MasterTold, Comes, Told, TurnAll, TurnTo as TurnToOne, ResyncAll, MasterAnswer, Done as IsDone, RefusedAs, Sent as SentAs, HeardAs, MasterStepped, master_steps_alone, master_hears_alone, report_excess}
+use Rattle.peer_channel.specs.Parcels.{id_of, parcel_is, IsSent}
 use Rattle.fuxi_terms.specs.NumbersSet.{AreNumbers}
-use Rattle.broadcast.specs.declared.grants.News.{News}
-use Rattle.broadcast.specs.AllShown.{RowsAreBefore, GrantsAreBefore, credited_after}
+use Rattle.ledger_updates.specs.declared.grants.StepChanges.{StepChanges}
+use Rattle.ledger_updates.specs.AllShown.{RowsAreBefore, GrantsAreBefore, credited_after}
 use Rattle.fuxi_master.specs.declared.event.MasterEvent.{MasterEvent}
 use Rattle.fuxi_master.specs.declared.event.MasterEvent.TheVariants.{Packet as PacketComes, Admit, Finish, Ban, Unban, Begin, Preempt, Turn, TurnTo, Resync}
 use Rattle.fuxi_master.specs.declared.event.Outcome.{Outcome}
@@ -93,11 +93,11 @@ abbrev pub app_named : Option AppNo → List Id
 app_named None = []
 app_named (Some a) = app_id a.0 ∷ []
 
-abbrev pub forced_by : News → List Id
+abbrev pub forced_by : StepChanges → List Id
 forced_by news = agent_named news.reported ++ app_named news.admitted
 
 -- what was changed is not shown yet
-pub record IsMid (x : CoreRecord) (news : News) : Type 0 where
+pub record IsMid (x : CoreRecord) (news : StepChanges) : Type 0 where
   pub kept : IsKept x
   pub rows : RowsAreBefore x.allotment.table x.allotment.touched x.agents
   pub grants : GrantsAreBefore x.allotment.table x.allotment.touched news x.reported.numbers x.apps
@@ -107,16 +107,16 @@ pub record IsMid (x : CoreRecord) (news : News) : Type 0 where
   pub below : AllByRecursion (λ (m : MachineNo). m.0 < most_machines) news.machines.items
 
 -- it stands for the master with the state and sides before the end of its step
-abbrev pub StandsMid : News → CoreRecord → MasterRole → Type 0
+abbrev pub StandsMid : StepChanges → CoreRecord → MasterRole → Type 0
 StandsMid news x r = StandsWith (credited_after news) x r
 
-pub record HasRole (news : News) (x : CoreRecord) : Type 0 where
+pub record HasRole (news : StepChanges) (x : CoreRecord) : Type 0 where
   pub role : MasterRole
   pub stands : StandsMid news x role
   pub told : IsToldAsHeard (λ _. false) role
 
 -- and at its end for the master that has ended it
-abbrev pub EndsAlike : News → CoreRecord → CoreRecord → Type 0
+abbrev pub EndsAlike : StepChanges → CoreRecord → CoreRecord → Type 0
 EndsAlike news old new = (r : MasterRole) → StandsMid news old r → StandsFor new (ends_alone r.cluster r.sides r.state (forced_by news))
 
 -- what is sent is formed

@@ -6,11 +6,11 @@ use Rattle.fuxi_terms.specs.declared.Key.{Key}
 use Rattle.fuxi_terms.specs.Jobs.{is_live, unit_count}
 use Rattle.fuxi_terms.specs.Keys.{key_cmp}
 use Rattle.fuxi_terms.specs.TallyKeys.{back_key, credited_key, is_back}
-use Rattle.written_net.specs.Ledgers.{at_key, tally_ledger}
-use Rattle.written_net.specs.Channels.{app_id}
-use Rattle.written_roles.specs.Masters.{Master, asked, credited_of, demand_of}
-use Rattle.written_roles.specs.MasterSteps.{counted}
-use Rattle.written_roles.specs.MasterRoles.{MasterRole}
+use Rattle.spec_net.specs.Ledgers.{at_key, tally_ledger}
+use Rattle.spec_net.specs.Channels.{app_id}
+use Rattle.spec_roles.specs.Masters.{Master, asked, credited_of, demand_of}
+use Rattle.spec_roles.specs.MasterSteps.{counted}
+use Rattle.spec_roles.specs.MasterRoles.{MasterRole}
 use Rattle.grant_table.specs.GrantTables.{as_known}
 use Rattle.place_pass.specs.Placers.{is_named}
 use Rattle.allotment.specs.Allotted.{AllotmentRecord, Allots}

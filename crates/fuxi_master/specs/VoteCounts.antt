@@ -5,8 +5,8 @@ use Rattle.fuxi_terms.specs.Lists.{below}
 use Rattle.fuxi_terms.specs.Numbers.{has_number}
 use Rattle.fuxi_terms.specs.TallyKeys.{avoid_key, want_key}
 use Rattle.schedule_unit.specs.declared.party.UnitNo.{UnitNo}
-use Rattle.written_roles.specs.MasterRoles.{MasterRole}
-use Rattle.written_roles.specs.Votes.{VotesRecord, marks, votes_of}
+use Rattle.spec_roles.specs.MasterRoles.{MasterRole}
+use Rattle.spec_roles.specs.Votes.{VotesRecord, marks, votes_of}
 use Rattle.place_pass.specs.Placers.{asks_seen}
 use Rattle.fuxi_master.specs.Cores.{CoreRecord, StandsFor}
 

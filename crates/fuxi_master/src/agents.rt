@@ -3,18 +3,18 @@
 ghost use Rattle.std.specs.Prelude.{◌≡◌, ◌<◌, ◌^◌, not, nat_eq, ◌&&◌, length, Some, None, IfOk};
 ghost use Rattle.party_ledgers.specs.Packets.{IsFormed};
 ghost use Rattle.schedule_unit.specs.declared.party.Role.TheVariants.{Master as AsMaster, Agent as AsAgent};
-ghost use Rattle.written_net.specs.Net.{is_taken};
+ghost use Rattle.spec_net.specs.Net.{is_taken};
 ghost use Rattle.fuxi_master.specs.Cores.{IsCore};
 ghost use Rattle.fuxi_master.specs.Heard.{IsAgentHeard, IsAdopted, IsDue};
 ghost use Rattle.fuxi_master.specs.Seen.{core_of};
 
 use crate::state::{Core, news};
-use broadcast::News;
-use core_side::{Excess, Limit, Refusal, Reply, Side};
 use failover::{AdoptFault, adopt, kept_total};
 use fuxi_terms::OutOfMemory;
 use hard_state::Known;
+use ledger_updates::StepChanges;
 use party_ledgers::{JoinLedger, Kind, Packet, RowLedger};
+use peer_channel::{Excess, Limit, Refusal, Reply, Side};
 use res_vector::{Res, sum_fits};
 use schedule_unit::MachineNo;
 use std::alloc::Global;
@@ -112,7 +112,7 @@ impl Core {
         &mut self,
         alloc: Global,
         machine: MachineNo,
-    ) -> Result<News, OutOfMemory>
+    ) -> Result<StepChanges, OutOfMemory>
         requires core { IsCore (core_of self.old) }
         requires machine { machine.0 < length self.old.allotment.table.cluster.machines }
         requires due { IsDue machine.0 (core_of self.old) }

@@ -12,8 +12,8 @@ ghost use Rattle.allotment.specs.Allotted.{AllWait, CreditsBack, newly_credited}
 ghost use Rattle.ledger_law.specs.Shapes.{IsTally};
 ghost use Rattle.party_ledgers.specs.Packets.{IsFormed};
 ghost use Rattle.party_ledgers.specs.declared.packets.Body.TheVariants.{DemandDelta};
-ghost use Rattle.core_side.specs.Bodies.{tally_of};
-ghost use Rattle.core_side.specs.CoreSides.{HearsAlike};
+ghost use Rattle.peer_channel.specs.Bodies.{tally_of};
+ghost use Rattle.peer_channel.specs.CoreSides.{HearsAlike};
 ghost use Rattle.schedule_unit.specs.declared.party.Role.TheVariants.{Master as AsMaster, App as AsApp};
 ghost use Rattle.fuxi_master.specs.Cores.{IsCore, IsNear, HasBoots, patched_grants};
 ghost use Rattle.fuxi_master.specs.ToldAsHeard.{ToldButAt};
@@ -22,13 +22,13 @@ ghost use Rattle.fuxi_master.specs.Seen.{core_of};
 
 use crate::state::Core;
 use allotment::Allotment;
-use broadcast::News;
-use core_side::{NoLimit, Reply, Side};
 use fuxi_terms::tally_keys::BACK;
 use fuxi_terms::{Key, OutOfMemory};
 use hard_state::Known;
 use ledger_law::{Change, Ledger};
+use ledger_updates::StepChanges;
 use party_ledgers::{Body, Demand, Grants, Kind, Packet};
+use peer_channel::{NoLimit, Reply, Side};
 use schedule_unit::AppNo;
 use std::alloc::Global;
 
@@ -65,7 +65,7 @@ impl Core {
         fresh: bool,
         taken: bool,
         change: &Option<Change>,
-    ) -> Result<News, OutOfMemory>
+    ) -> Result<StepChanges, OutOfMemory>
         requires near { IsNear (core_of self.old) }
         requires boots { HasBoots (λ a. fresh && nat_eq a app.0) (core_of self.old) }
         requires known { is_known self.old.known.jobs app.0 ≡ true }
@@ -78,10 +78,10 @@ impl Core {
             unreachable!()
         };
         let live = counts(taken, side, self.epoch, &self.known, app);
-        let _sound = self.allotment.table().cluster();
+        self.allotment.table().is_sound();
         let _units = self.allotment.table().units(app);
         let credited = demanded(alloc, &mut self.allotment, app, side, fresh, live, change)?;
-        Ok(News {
+        Ok(StepChanges {
             reported: None,
             admitted: None,
             machines: Vec::new(alloc),
@@ -157,7 +157,7 @@ fn credit(
     ensures numbers { IfOk result (λ numbers. numbers.items ≡ newly_credited allotment.old.table.cluster (unit_count (as_known allotment.old.table.jobs) app.0) given.now.entries demand.now.entries) }
 {
     let _entries = demand.entries();
-    let _sound = allotment.table().cluster();
+    allotment.table().is_sound();
     if let Some(change) = change {
         if !gives_back(change.entries()) {
             return Ok(Vec::new(alloc));

@@ -3,8 +3,8 @@
 ghost use Rattle.std.specs.Prelude.{◌≡◌, ◌+◌, ◌<◌, ◌≤◌, ◌^◌, ℕ, true, false, length, map, filter, Some, None, IfOk, OnOk};
 ghost use Rattle.fuxi_terms.specs.Jobs.{is_known};
 ghost use Rattle.fuxi_terms.specs.Limits.{most_machines};
-ghost use Rattle.written_roles.specs.MasterSteps.{ended_in, banned_in};
-ghost use Rattle.written_roles.specs.MasterRoles.{MasterRole};
+ghost use Rattle.spec_roles.specs.MasterSteps.{ended_in, banned_in};
+ghost use Rattle.spec_roles.specs.MasterRoles.{MasterRole};
 ghost use Rattle.fuxi_master.specs.Cores.{IsCore, StandsFor};
 ghost use Rattle.fuxi_master.specs.Commands.{changed_by, admitting, with_slots, unbanned_in, beginning, IsClosed, IsOpened, IsPreempted, Preempts};
 ghost use Rattle.fuxi_terms.specs.Lists.{below};
@@ -12,18 +12,18 @@ ghost use Rattle.fuxi_terms.specs.Numbers.{has_number};
 ghost use Rattle.schedule_unit.specs.declared.party.MachineNo.{MachineNo as MachineSeen};
 ghost use Rattle.allotment.specs.Allotted.{AllWait};
 ghost use Rattle.place_pass.specs.Placers.{IsUpToDate};
-ghost use Rattle.fuxi_master.specs.Heard.{Changes, IsNews};
+ghost use Rattle.fuxi_master.specs.Heard.{Changes, AreStepChanges};
 ghost use Rattle.fuxi_master.specs.Seen.{core_of};
 
 use crate::state::{Core, news};
 use allotment::{Allotment, law};
-use broadcast::News;
-use core_side::Side;
 use failover::Machines;
 use fuxi_terms::OutOfMemory;
 use grant_table::Steps;
 use ledger_law::Ledger as _;
+use ledger_updates::StepChanges;
 use party_ledgers::{Demand, Grants};
+use peer_channel::Side;
 use schedule_unit::{AppNo, Job, MachineNo};
 use std::alloc::Global;
 use std::marker::Brand;
@@ -31,7 +31,7 @@ use std::sync::ledger::{Blank, Ledger};
 
 impl Core {
     // A job is known from now on.
-    pub(crate) fn admit(self, alloc: Global, job: &Job) -> Result<(Core, News), OutOfMemory>
+    pub(crate) fn admit(self, alloc: Global, job: &Job) -> Result<(Core, StepChanges), OutOfMemory>
         requires core { IsCore (core_of self) }
         requires unknown { is_known self.known.jobs job.now.number ≡ false }
         ensures none { IfOk result (λ after. after.1.reported ≡ None) }
@@ -54,7 +54,7 @@ impl Core {
         let allotment = allotment.admit(alloc, job)?;
         make_slots(&mut apps, app)?;
         apps[app.0 as usize] = Some(Side::start(alloc, epoch)?);
-        let news = News {
+        let news = StepChanges {
             reported: None,
             admitted: Some(app),
             machines: machines_in(alloc, &reported, machines)?,
@@ -76,14 +76,14 @@ impl Core {
     }
 
     // A job has ended: its grants are gone, and its demand counts as empty.
-    pub(crate) fn end_job(&mut self, alloc: Global, app: AppNo) -> Result<News, OutOfMemory>
+    pub(crate) fn end_job(&mut self, alloc: Global, app: AppNo) -> Result<StepChanges, OutOfMemory>
         requires core { IsCore (core_of self.old) }
         requires known { is_known self.old.known.jobs app.0 ≡ true }
-        ensures news { IfOk result (IsNews None None) }
+        ensures news { IfOk result (AreStepChanges None None) }
         ensures changes { IfOk result (λ news. Changes news (changed_by (λ M. ended_in M app.0)) (core_of self.old) (core_of self.new)) }
     {
         law::ends_alike();
-        let _sound = self.allotment.table().cluster();
+        self.allotment.table().is_sound();
         let _units = self.allotment.table().units(app);
         self.allotment.clear_job(app)?;
         self.allotment.asked(app, &Demand::empty(alloc), None);
@@ -92,27 +92,31 @@ impl Core {
     }
 
     // A machine is banned: its grants are gone, and it takes no new ones.
-    pub(crate) fn ban(&mut self, alloc: Global, machine: MachineNo) -> Result<News, OutOfMemory>
+    pub(crate) fn ban(
+        &mut self,
+        alloc: Global,
+        machine: MachineNo,
+    ) -> Result<StepChanges, OutOfMemory>
         requires core { IsCore (core_of self.old) }
         requires machine { machine.0 < most_machines }
-        ensures news { IfOk result (IsNews None None) }
+        ensures news { IfOk result (AreStepChanges None None) }
         ensures changes { IfOk result (λ news. Changes news (changed_by (λ M. banned_in M machine.0)) (core_of self.old) (core_of self.new)) }
     {
-        let _sound = self.allotment.table().cluster();
-        closed(&mut self.allotment, machine)?;
+        self.allotment.table().is_sound();
+        close_machine(&mut self.allotment, machine)?;
         self.known.ban(machine);
         Ok(news(alloc, None, None))
     }
 
     // A machine is banned no more.
-    pub(crate) fn unban(&mut self, alloc: Global, machine: MachineNo) -> News
+    pub(crate) fn unban(&mut self, alloc: Global, machine: MachineNo) -> StepChanges
         requires core { IsCore (core_of self.old) }
         requires machine { machine.0 < most_machines }
-        ensures news { IsNews None None result }
+        ensures news { AreStepChanges None None result }
         ensures changes { Changes result (changed_by (λ M. unbanned_in M machine.0)) (core_of self.old) (core_of self.new) }
     {
-        let _sound = self.allotment.table().cluster();
-        opened(&mut self.allotment, machine, &self.reported);
+        self.allotment.table().is_sound();
+        open_machine(&mut self.allotment, machine, &self.reported);
         self.known.unban(machine);
         news(alloc, None, None)
     }
@@ -123,18 +127,18 @@ impl Core {
         requires turns { self.old.allotment.placer.seen.turns < 2 ^ 63 }
         ensures { IfOk result (λ found. Preempts found (core_of self.old) (core_of self.new)) }
     {
-        let _sound = self.allotment.table().cluster();
+        self.allotment.table().is_sound();
         let found = preempted::<Brand>(alloc, &mut self.allotment, Blank::new(1))?;
         Ok(found)
     }
 
     // It serves, though machines are not reported.
-    pub(crate) fn begin(&mut self, alloc: Global) -> News
+    pub(crate) fn begin(&mut self, alloc: Global) -> StepChanges
         requires core { IsCore (core_of self.old) }
-        ensures news { IsNews None None result }
+        ensures news { AreStepChanges None None result }
         ensures changes { Changes result (changed_by beginning) (core_of self.old) (core_of self.new) }
     {
-        let _sound = self.allotment.table().cluster();
+        self.allotment.table().is_sound();
         self.serving = true;
         news(alloc, None, None)
     }
@@ -171,7 +175,7 @@ fn machines_in(
 }
 
 // A machine has no grant and takes none.
-fn closed(allotment: &mut Allotment, machine: MachineNo) -> Result<(), OutOfMemory>
+fn close_machine(allotment: &mut Allotment, machine: MachineNo) -> Result<(), OutOfMemory>
     requires { AllWait allotment.old }
     ensures { OnOk result (IsClosed machine.0 allotment.old allotment.new) }
 {
@@ -185,7 +189,7 @@ fn closed(allotment: &mut Allotment, machine: MachineNo) -> Result<(), OutOfMemo
 }
 
 // A machine takes grants where it is reported.
-fn opened(allotment: &mut Allotment, machine: MachineNo, reported: &Machines)
+fn open_machine(allotment: &mut Allotment, machine: MachineNo, reported: &Machines)
     ensures { IsOpened machine.0 reported.now.numbers allotment.old allotment.new }
 {
     let machines = allotment.table().cluster().machines();

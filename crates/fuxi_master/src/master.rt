@@ -9,15 +9,15 @@ ghost use Rattle.fuxi_terms.specs.Jobs.{is_known, unit_count};
 ghost use Rattle.fuxi_terms.specs.Limits.{most_steps};
 ghost use Rattle.fuxi_terms.specs.Tables.{total_at};
 ghost use Rattle.fuxi_terms.specs.TallyKeys.{want_key};
-ghost use Rattle.core_side.specs.Parcels.{id_of, IsSent};
+ghost use Rattle.peer_channel.specs.Parcels.{id_of, IsSent};
 ghost use Rattle.party_ledgers.specs.Packets.{IsFormed};
 ghost use Rattle.party_ledgers.specs.PacketHeaders.{header_of};
 ghost use Rattle.party_ledgers.specs.declared.packets.Packet.{Packet};
 ghost use Rattle.grant_table.specs.GrantTables.{as_known};
 ghost use Rattle.place_pass.specs.Placers.{asks_seen};
-ghost use Rattle.written_roles.specs.MasterRoles.{MasterRole, master_started};
-ghost use Rattle.written_roles.specs.Masters.{asked, avoids, out, out_of};
-ghost use Rattle.written_roles.specs.Votes.{votes_in};
+ghost use Rattle.spec_roles.specs.MasterRoles.{MasterRole, master_started};
+ghost use Rattle.spec_roles.specs.Masters.{asked, avoids, out, out_of};
+ghost use Rattle.spec_roles.specs.Votes.{votes_in};
 ghost use Rattle.fuxi_master.specs.Cores.{StandsFor};
 ghost use Rattle.fuxi_master.specs.Readers.{place_in, last_in, place_of};
 ghost use Rattle.fuxi_master.specs.Steps.{IsFitting, IsSentFormed, StepsAlike, is_peer};
@@ -27,13 +27,13 @@ use crate::state::Core;
 use crate::step::{heard, stepped};
 use bad_nodes::Votes;
 use cluster_desc::Cluster;
-use core_side::Reply;
 use delta_channel::Place;
 use failover::{Machines, Phase};
 use fuxi_terms::OutOfMemory;
 use grant_table::GrantTable;
 use hard_state::{Hard, Known};
 use party_ledgers::{Header, Kind, Packet, Packets};
+use peer_channel::Reply;
 use place_pass::Line;
 use schedule_unit::{AppNo, MachineNo, Party, UnitNo};
 use std::alloc::Global;
@@ -190,7 +190,7 @@ impl Master {
         ensures units { (a : ℕ) → unit_count (as_known result.now.jobs) a ≡ unit_count self.now.core.known.jobs a }
     {
         let table = self.core.allotment.table();
-        let _cluster = table.cluster();
+        table.is_sound();
         table
     }
 

@@ -5,19 +5,19 @@ ghost use Rattle.fuxi_terms.specs.Jobs.{unit_count};
 ghost use Rattle.fuxi_terms.specs.Limits.{most_jobs, most_machines};
 ghost use Rattle.fuxi_terms.specs.TallyKeys.{avoid_key, want_key};
 ghost use Rattle.schedule_unit.specs.declared.party.Role.TheVariants.{Agent as AsAgent, App as AsApp};
-ghost use Rattle.core_side.specs.Parcels.{id_of};
+ghost use Rattle.peer_channel.specs.Parcels.{id_of};
 ghost use Rattle.place_pass.specs.Placers.{asks_seen};
-ghost use Rattle.written_roles.specs.MasterRoles.{MasterRole};
-ghost use Rattle.written_roles.specs.Masters.{asked, avoids, out, out_of};
+ghost use Rattle.spec_roles.specs.MasterRoles.{MasterRole};
+ghost use Rattle.spec_roles.specs.Masters.{asked, avoids, out, out_of};
 ghost use Rattle.fuxi_master.specs.Cores.{IsCore, StandsFor};
 ghost use Rattle.fuxi_master.specs.Readers.{place_in, last_in, place_of};
 ghost use Rattle.fuxi_master.specs.Seen.{core_of};
 ghost use Rattle.fuxi_master.specs.Steps.{is_peer};
 
 use crate::state::Core;
-use core_side::Side;
 use delta_channel::Place;
 use party_ledgers::{Demand, Grants, JoinLedger, RowLedger};
+use peer_channel::Side;
 use schedule_unit::{AppNo, MachineNo, Party, Role, UnitNo};
 
 impl Core {
@@ -58,7 +58,7 @@ impl Core {
         ensures there { slice_get (core_of self.now).agents number ≡ Some result.now }
         ensures small { number < most_machines }
     {
-        let _cluster = self.allotment.table().cluster();
+        self.allotment.table().is_sound();
         &self.agents[number as usize]
     }
 

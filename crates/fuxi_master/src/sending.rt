@@ -5,22 +5,22 @@ ghost use Rattle.std.specs.List.{AllByRecursion, flat_map};
 ghost use Rattle.std.specs.Option.{option_map};
 ghost use Rattle.fuxi_terms.specs.Jobs.{job_numbers};
 ghost use Rattle.fuxi_terms.specs.Lists.{below};
-ghost use Rattle.core_side.specs.Parcels.{IsSent};
-ghost use Rattle.written_roles.specs.MasterRoles.{MasterRole, master_turn, master_resynced};
-ghost use Rattle.written_roles.specs.MasterSteps.{master_party};
-ghost use Rattle.written_net.specs.Channels.{agent_id, app_id};
-ghost use Rattle.written_net.specs.Sides.{turn_parcels};
-ghost use Rattle.core_side.specs.Parcels.{id_of, parcel_is};
+ghost use Rattle.peer_channel.specs.Parcels.{IsSent};
+ghost use Rattle.spec_roles.specs.MasterRoles.{MasterRole, master_turn, master_resynced};
+ghost use Rattle.spec_roles.specs.MasterSteps.{master_party};
+ghost use Rattle.spec_net.specs.Channels.{agent_id, app_id};
+ghost use Rattle.spec_net.specs.Sides.{turn_parcels};
+ghost use Rattle.peer_channel.specs.Parcels.{id_of, parcel_is};
 ghost use Rattle.fuxi_master.specs.Cores.{IsCore, IsWithin, StandsFor};
 ghost use Rattle.fuxi_master.specs.Resyncs.{agent_forgotten, app_forgotten};
 ghost use Rattle.fuxi_master.specs.Seen.{core_of};
 ghost use Rattle.fuxi_master.specs.Steps.{is_peer};
 
 use crate::state::Core;
-use core_side::Side;
 use fuxi_terms::OutOfMemory;
 use grant_table::law;
 use party_ledgers::{Demand, Grants, JoinLedger, Packets, RowLedger};
+use peer_channel::Side;
 use schedule_unit::{Party, Role};
 use std::alloc::Global;
 
@@ -44,7 +44,7 @@ impl Core {
             ≡ map parcel_is packets.old ++ flat_map (λ q. turn_parcels (master_party r.state) q (r.sides q)) (map agent_id (below (length r.cluster.machines)))) }
         ensures formed { AllByRecursion IsSent packets.old → OnOk result (AllByRecursion IsSent packets.new) }
     {
-        let _cluster = self.allotment.table().cluster();
+        self.allotment.table().is_sound();
         for number in 0..self.agents.len() {
             self.agents[number].turn(alloc, 0, number as u32, packets)?;
         }
@@ -61,7 +61,7 @@ impl Core {
         law::admitted_jobs();
         let _jobs = self.known.jobs();
         let table = self.allotment.table();
-        let _sound = table.cluster();
+        table.is_sound();
         for index in 0..table.jobs() {
             let app = table.job(index).app();
             self.app(app.0).turn(alloc, 0, app.0, packets)?;

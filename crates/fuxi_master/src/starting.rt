@@ -3,8 +3,8 @@
 ghost use Rattle.std.specs.Prelude.{ℕ, ◌≡◌, ◌<◌, [], true, length, IfOk};
 ghost use Rattle.std.specs.List.{AllByRecursion};
 ghost use Rattle.fuxi_terms.specs.Jobs.{is_known};
-ghost use Rattle.written_roles.specs.MasterRoles.{master_started};
-ghost use Rattle.written_roles.specs.HardState.{HardState};
+ghost use Rattle.spec_roles.specs.MasterRoles.{master_started};
+ghost use Rattle.spec_roles.specs.HardState.{HardState};
 ghost use Rattle.allotment.specs.Allotted.{AllWait};
 ghost use Rattle.fuxi_master.specs.Cores.{IsCore, IsWithin, StandsFor};
 ghost use Rattle.fuxi_master.specs.Seen.{core_of};
@@ -12,17 +12,17 @@ ghost use Rattle.fuxi_master.specs.MasterStarts.{IsDownStarted, IsAppStarted, Ar
 
 use crate::state::Core;
 use allotment::Allotment;
-use broadcast::show_grants;
 use cluster_desc::Cluster;
-use core_side::Side;
 use failover::Machines;
 use fuxi_terms::OutOfMemory;
 use fuxi_terms::limits::MOST_JOBS;
 use hard_state::Known;
+use ledger_updates::show_grants;
 use party_ledgers::{Demand, Grants, JoinLedger, RowLedger};
+use peer_channel::Side;
 use schedule_unit::AppNo;
+use spec_roles::law;
 use std::alloc::Global;
-use written_roles::law;
 
 // The ends of the channels with the agents of so many machines.
 fn agents_started(

@@ -3,26 +3,26 @@
 ghost use Rattle.std.specs.Prelude.{◌≡◌, ◌+◌, ◌*◌, ◌<◌, ◌≤◌, ◌^◌, OnOk};
 ghost use Rattle.std.specs.List.{AllByRecursion};
 ghost use Rattle.fuxi_terms.specs.Limits.{most_steps};
-ghost use Rattle.broadcast.specs.AllShown.{Down, HaveRoom};
+ghost use Rattle.ledger_updates.specs.AllShown.{Down, HaveRoom};
 ghost use Rattle.fuxi_master.specs.Cores.{IsKept, IsCore, IsWithin, IsWithinSoon};
 ghost use Rattle.fuxi_master.specs.StepEnds.{IsCoreReadied, IsPublished};
-ghost use Rattle.fuxi_master.specs.Heard.{IsNews};
+ghost use Rattle.fuxi_master.specs.Heard.{AreStepChanges};
 ghost use Rattle.fuxi_master.specs.Seen.{core_of};
 ghost use Rattle.fuxi_master.specs.Steps.{IsMid, HasRole, EndsAlike};
 
 use allotment::Allotment;
-use broadcast::{News, in_order, show_all_grants, show_all_rows};
-use core_side::Side;
 use failover::{Machines, all_reported};
 use fuxi_terms::OutOfMemory;
 use grant_table::Steps;
 use hard_state::Known;
+use ledger_updates::{StepChanges, in_order, show_all_grants, show_all_rows};
 use party_ledgers::{Demand, Grants, JoinLedger, RowLedger};
+use peer_channel::Side;
 use schedule_unit::{AppNo, MachineNo};
+use spec_roles::law;
 use std::alloc::Global;
 use std::marker::Brand;
 use std::sync::ledger::{Blank, Ledger};
-use written_roles::law;
 
 // The state of a master and its ends of the channels, by machine and by job number.
 #[derive(Drop)]
@@ -36,11 +36,15 @@ pub(crate) struct Core {
     pub(crate) apps: Vec<Option<Side<Grants, Demand>>>,
 }
 
-// News with nothing credited.
-pub(crate) fn news(alloc: Global, reported: Option<MachineNo>, admitted: Option<AppNo>) -> News
-    ensures { IsNews reported admitted result }
+// StepChanges with nothing credited.
+pub(crate) fn news(
+    alloc: Global,
+    reported: Option<MachineNo>,
+    admitted: Option<AppNo>,
+) -> StepChanges
+    ensures { AreStepChanges reported admitted result }
 {
-    News {
+    StepChanges {
         reported,
         admitted,
         machines: Vec::new(alloc),
@@ -51,7 +55,7 @@ pub(crate) fn news(alloc: Global, reported: Option<MachineNo>, admitted: Option<
 
 impl Core {
     // The phase, the line and settling, with a counter of steps of its own.
-    fn readied<L: Ledger>(&mut self, blank: Blank) -> Result<(), OutOfMemory>
+    fn make_ready<L: Ledger>(&mut self, blank: Blank) -> Result<(), OutOfMemory>
         requires name { blank.name ≡ L.name }
         requires parts { blank.parts ≡ L.parts }
         requires some { 0 < blank.parts }
@@ -72,7 +76,7 @@ impl Core {
     }
 
     // Shows each peer what it should hold.
-    fn published(&mut self, alloc: Global, news: &News) -> Result<(), OutOfMemory>
+    fn publish(&mut self, alloc: Global, news: &StepChanges) -> Result<(), OutOfMemory>
         requires mid { IsMid (core_of self.old) news.now }
         requires agents { AllByRecursion (λ (d : Down). d.outgoing.last < 2 ^ 62) self.old.agents.items }
         requires apps { HaveRoom self.old.apps.items }
@@ -93,10 +97,10 @@ impl Core {
     }
 
     // Ends a step.
-    pub(crate) fn finished(
+    pub(crate) fn end_step(
         &mut self,
         alloc: Global,
-        news: &News,
+        news: &StepChanges,
         steps: u64,
     ) -> Result<(), OutOfMemory>
         requires mid { IsMid (core_of self.old) news.now }
@@ -108,8 +112,8 @@ impl Core {
         ensures ends { OnOk result (EndsAlike news.now (core_of self.old) (core_of self.new)) }
     {
         law::settling();
-        self.readied::<Brand>(Blank::new(1))?;
-        self.published(alloc, news)?;
+        self.make_ready::<Brand>(Blank::new(1))?;
+        self.publish(alloc, news)?;
         Ok(())
     }
 }

@@ -8,19 +8,19 @@ ghost use Rattle.fuxi_terms.specs.Limits.{most_machines, most_steps};
 ghost use Rattle.party_ledgers.specs.Packets.{IsFormed};
 ghost use Rattle.party_ledgers.specs.PacketHeaders.{header_of};
 ghost use Rattle.party_ledgers.specs.declared.packets.Packet.{Packet};
-ghost use Rattle.written_roles.specs.MasterRoles.{MasterRole};
-ghost use Rattle.written_net.specs.Net.{is_taken, same_id};
-ghost use Rattle.written_net.specs.Channels.{master_id};
-ghost use Rattle.core_side.specs.Parcels.{party_of};
+ghost use Rattle.spec_roles.specs.MasterRoles.{MasterRole};
+ghost use Rattle.spec_net.specs.Net.{is_taken, same_id};
+ghost use Rattle.spec_net.specs.Channels.{master_id};
+ghost use Rattle.peer_channel.specs.Parcels.{party_of};
 ghost use Rattle.fuxi_master.specs.Cores.{IsCore, IsWithin, StandsFor};
 ghost use Rattle.fuxi_master.specs.Seen.{core_of};
 ghost use Rattle.fuxi_master.specs.Steps.{IsFitting, IsStep, IsHeard, HearsRole};
 
 use crate::event::{MasterEvent, MasterRefusal, Outcome};
 use crate::state::{Core, news};
-use core_side::Reply;
 use fuxi_terms::OutOfMemory;
 use party_ledgers::{Header, Kind, Packet};
+use peer_channel::Reply;
 use schedule_unit::{AppNo, Job, MachineNo, Party, Role};
 use std::alloc::Global;
 
@@ -122,7 +122,7 @@ impl Core {
         requires core { IsCore (core_of self.now) }
         ensures { IfSome result (λ reply. (x : Packet) → IsFormed x → header_of x ≡ header.now → (r : MasterRole) → StandsFor (core_of self.now) r → HearsRole x (core_of self.now) reply r) }
     {
-        written_roles::law::step_ends();
+        spec_roles::law::step_ends();
         if !is_for_master(&header.to) {
             return None;
         }
@@ -151,8 +151,8 @@ impl Core {
         requires steps { steps ≤ most_steps }
         ensures { IfOk result (λ heard. IsHeard packet steps (core_of self.old) (core_of self.new) heard) }
     {
-        written_roles::law::step_ends();
-        core_side::law::strangers_change_nothing();
+        spec_roles::law::step_ends();
+        peer_channel::law::strangers_change_nothing();
         if !is_for_master(&packet.to) {
             return Ok(Reply::stranger());
         }
@@ -191,14 +191,14 @@ impl Core {
         requires steps { steps ≤ most_steps }
         ensures { IfOk result (λ heard. IsHeard packet steps (core_of self.old) (core_of self.new) heard) }
     {
-        written_roles::law::step_ends();
+        spec_roles::law::step_ends();
         let machine = MachineNo(packet.from.number);
         let (heard, due) = self.hear_agent(alloc, packet)?;
         if !due {
             return Ok(heard);
         }
         let news = self.adopt_report(alloc, machine)?;
-        self.finished(alloc, &news, steps)?;
+        self.end_step(alloc, &news, steps)?;
         Ok(heard)
     }
 
@@ -215,7 +215,7 @@ impl Core {
         requires steps { steps ≤ most_steps }
         ensures { IfOk result (λ heard. IsHeard packet steps (core_of self.old) (core_of self.new) heard) }
     {
-        written_roles::law::step_ends();
+        spec_roles::law::step_ends();
         let app = AppNo(packet.from.number);
         let (heard, change) = self.hear_app(alloc, packet)?;
         let fresh = heard.fresh();
@@ -224,7 +224,7 @@ impl Core {
             return Ok(heard);
         }
         let news = self.take_demand(alloc, app, fresh, taken, &change)?;
-        self.finished(alloc, &news, steps)?;
+        self.end_step(alloc, &news, steps)?;
         Ok(heard)
     }
 
@@ -243,7 +243,7 @@ impl Core {
         ensures { IfOk result (λ after. IsStep (MasterEvent.Admit job.now) steps (core_of self) (core_of after.0) after.1) }
     {
         let (mut core, news) = self.admit(alloc, job)?;
-        core.finished(alloc, &news, steps)?;
+        core.end_step(alloc, &news, steps)?;
         Ok((core, Outcome::Done))
     }
 
@@ -256,7 +256,7 @@ impl Core {
         ensures { IfOk result (λ outcome. IsStep (MasterEvent.Finish app) steps (core_of self.old) (core_of self.new) outcome) }
     {
         let news = self.end_job(alloc, app)?;
-        self.finished(alloc, &news, steps)?;
+        self.end_step(alloc, &news, steps)?;
         Ok(Outcome::Done)
     }
 
@@ -274,7 +274,7 @@ impl Core {
         ensures { IfOk result (λ outcome. IsStep (MasterEvent.Ban machine) steps (core_of self.old) (core_of self.new) outcome) }
     {
         let news = self.ban(alloc, machine)?;
-        self.finished(alloc, &news, steps)?;
+        self.end_step(alloc, &news, steps)?;
         Ok(Outcome::Done)
     }
 
@@ -292,7 +292,7 @@ impl Core {
         ensures { IfOk result (λ outcome. IsStep (MasterEvent.Unban machine) steps (core_of self.old) (core_of self.new) outcome) }
     {
         let news = self.unban(alloc, machine);
-        self.finished(alloc, &news, steps)?;
+        self.end_step(alloc, &news, steps)?;
         Ok(Outcome::Done)
     }
 
@@ -307,7 +307,7 @@ impl Core {
             return Ok(Outcome::Refused(MasterRefusal::AlreadyServing));
         }
         let news = self.begin(alloc);
-        self.finished(alloc, &news, steps)?;
+        self.end_step(alloc, &news, steps)?;
         Ok(Outcome::Done)
     }
 
@@ -326,7 +326,7 @@ impl Core {
             return Ok(Outcome::Refused(MasterRefusal::NothingToPreempt));
         }
         let news = news(alloc, None, None);
-        self.finished(alloc, &news, steps)?;
+        self.end_step(alloc, &news, steps)?;
         Ok(Outcome::Done)
     }
 }

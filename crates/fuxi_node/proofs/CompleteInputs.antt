@@ -5,8 +5,8 @@ use Rattle.fuxi_io.specs.declared.status.LimitOf.{LimitOf}
 use Rattle.fuxi_io.specs.declared.status.LimitOf.TheVariants.{Lines, Packets, Bytes, Records, Calls}
 use Rattle.fuxi_io.specs.declared.status.Status.{Status}
 use Rattle.fuxi_io.specs.declared.status.Status.TheVariants.{Done, Usage, BadInput, ReadFault, WriteFault, Limit, OutOfMemory, DiskFault, StaleEpoch, DamagedCheckpoint}
-use Rattle.written_roles.specs.Refusals.{Refusal}
-use Rattle.written_roles.specs.HardState.{Raise, hard_step}
+use Rattle.spec_roles.specs.Refusals.{Refusal}
+use Rattle.spec_roles.specs.HardState.{Raise, hard_step}
 use Rattle.hard_state.specs.HardFiles.{records_of}
 use Rattle.fuxi_node.specs.NodeEnds.{EndsBy}
 use Rattle.fuxi_node.specs.MasterEnds.{RefusesEpoch}

@@ -1,8 +1,8 @@
 -- What is kept of a disk that tells its moments.
 use Rattle.std.proofs.Common.{inl, inr, ℕ, Option, None, Some}
 use Rattle.fuxi_io.specs.Disks.{Told as Moments}
-use Rattle.node_rounds.specs.Roles.{Role}
-use Rattle.node_party.specs.NodeHalts.{FitsEither}
+use Rattle.node_core.specs.Roles.{Role}
+use Rattle.node_core.specs.NodeHalts.{FitsEither}
 use Rattle.fuxi_node.specs.NodeEnds.{FromRest, FitsNow, FitsOneNow}
 use Rattle.fuxi_node.specs.NodeProgress.{KeepsTold}
 

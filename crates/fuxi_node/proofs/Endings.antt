@@ -5,10 +5,10 @@ use Rattle.fuxi_io.specs.declared.status.InputFault.TheVariants.{LineTooLong}
 use Rattle.fuxi_terms.specs.Limits.{most_line_bytes, most_lines}
 use Rattle.schedule_text.specs.declared.event.LineFault.{LineFault}
 use Rattle.input_lines.specs.Contents.{content, is_skipped}
-use Rattle.node_party.specs.declared.line.NodeLine.{NodeLine}
-use Rattle.node_party.specs.declared.line.NodeLine.TheVariants.{Round as RoundLine, Serve, Show, Event}
-use Rattle.node_party.specs.NodeLines.{node_line}
-use Rattle.node_party.specs.PartyEvents.{commanded, accepts}
+use Rattle.node_core.specs.declared.line.NodeLine.{NodeLine}
+use Rattle.node_core.specs.declared.line.NodeLine.TheVariants.{Round as RoundLine, Serve, Show, Event}
+use Rattle.node_core.specs.NodeLines.{node_line}
+use Rattle.node_core.specs.PartyEvents.{commanded, accepts}
 use Rattle.fuxi_node.specs.NodeRuns.{Node, Round, Run, Ending, AtBadLine, AtLimit, then_is, ended, meets, takes, role_run, ending_at, ending_from}
 
 -- a line that the rest of the run goes on behind

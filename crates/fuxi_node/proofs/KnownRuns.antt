@@ -11,16 +11,16 @@ use Rattle.fuxi_terms.specs.Limits.{most_lines}
 use Rattle.input_lines.specs.Contents.{content, is_skipped}
 use Rattle.input_lines.specs.InputStatuses.{stop_status}
 use Rattle.input_lines.specs.Wholes.{TakesLines}
-use Rattle.node_door.specs.Doors.{Told, WhereTold}
-use Rattle.node_rounds.specs.Roles.{Role}
-use Rattle.node_party.specs.NodeLines.{node_line}
-use Rattle.node_party.specs.NodeTexts.{state_text}
+use Rattle.fuxi_io.specs.Doors.{Told, WhereTold}
+use Rattle.node_core.specs.Roles.{Role}
+use Rattle.node_core.specs.NodeLines.{node_line}
+use Rattle.node_core.specs.NodeTexts.{state_text}
 use Rattle.fuxi_node.specs.declared.taking.DiskFailed.{DiskFailed}
 use Rattle.fuxi_node.specs.declared.taking.Stop.TheVariants.{Ends, Disk}
 use Rattle.fuxi_node.specs.NodeRuns.{Node}
 use Rattle.fuxi_node.specs.NodeEnds.{Start, Ended, start_of}
 use Rattle.fuxi_node.specs.NodeProgress.{Taken, TakesCounted, WritesEnd, Along}
-use Rattle.node_door.specs.DoorsLemmas.{same_told, map_told}
+use Rattle.fuxi_io.specs.DoorsLemmas.{same_told, map_told}
 use Rattle.fuxi_node.proofs.NodeProgressLemmas.{line_more}
 use Rattle.fuxi_node.proofs.NodeRunsLemmas.{begin, skip, step, state_ended, stop_ended, line_ended, disk_ended}
 

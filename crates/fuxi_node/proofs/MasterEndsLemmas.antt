@@ -7,17 +7,17 @@ use Rattle.fuxi_io.specs.Reading.{read_ahead}
 use Rattle.fuxi_io.specs.declared.status.LimitOf.TheVariants.{Lines, Packets, Bytes, Records, Calls}
 use Rattle.fuxi_io.specs.declared.status.Status.{Status}
 use Rattle.fuxi_io.specs.declared.status.Status.TheVariants.{Done, Usage, BadInput, ReadFault, WriteFault, Limit, OutOfMemory, DiskFault, StaleEpoch, DamagedCheckpoint}
-use Rattle.written_roles.specs.HardState.{HardState}
+use Rattle.spec_roles.specs.HardState.{HardState}
 use Rattle.hard_state.specs.HardFiles.{Kept, SyncsAll, records_of}
 use Rattle.hard_state.specs.declared.fault.HardFault.{HardFault}
 use Rattle.hard_state.specs.declared.fault.HardFault.TheVariants.{Stale, Fenced, Known, NoJob, Ended as HasEnded, AlreadyBanned, NotBanned, Full, NotCheckpoint, DiskFault as NoDisk, OutOfMemory as NoMemory}
 use Rattle.input_lines.specs.Wholes.{whole_lines}
-use Rattle.master_node.specs.MasterParties.{DiskHas, NodeRecord, RestsAt}
-use Rattle.master_node.specs.OpenedMasters.{IsRaised, IsStartFault, Starts, StartsFrom}
-use Rattle.master_node.specs.NodeCommands.{LeavesEither, hard_in}
-use Rattle.node_door.specs.Doors.{Told, WhereTold}
-use Rattle.node_rounds.specs.Roles.{Role, OfAgent, OfApp, OfMaster}
-use Rattle.node_party.specs.NodeHalts.{FitsEither}
+use Rattle.node_parties.specs.MasterParties.{DiskHas, NodeRecord, RestsAt}
+use Rattle.node_parties.specs.OpenedMasters.{IsRaised, IsStartFault, Starts, StartsFrom}
+use Rattle.node_parties.specs.NodeCommands.{LeavesEither, hard_in}
+use Rattle.fuxi_io.specs.Doors.{Told, WhereTold}
+use Rattle.node_core.specs.Roles.{Role, OfAgent, OfApp, OfMaster}
+use Rattle.node_core.specs.NodeHalts.{FitsEither}
 use Rattle.fuxi_node.specs.declared.taking.DiskFailed.{DiskFailed}
 use Rattle.fuxi_node.specs.NodeEnds.{Start, Ran, EndsByLines, EndsWith, Ended, FromRest, FitsNow, FitsOneNow, IsRunStatus}
 use Rattle.fuxi_node.specs.NodeRuns.{Ending, AtEnd, AtBadLine, AtLimit}

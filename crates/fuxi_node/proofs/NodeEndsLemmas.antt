@@ -17,8 +17,8 @@ use Rattle.schedule_text.specs.declared.event.LineFault.TheVariants.{UnknownWord
 use Rattle.schedule_text.specs.ReadEvents.{IsFault}
 use Rattle.input_lines.specs.InputStatuses.{event_fault, event_status, stop_status}
 use Rattle.input_lines.specs.Wholes.{TakesLines}
-use Rattle.node_party.specs.declared.line.NodeLine.{NodeLine}
-use Rattle.node_party.specs.NodeLines.{node_line}
+use Rattle.node_core.specs.declared.line.NodeLine.{NodeLine}
+use Rattle.node_core.specs.NodeLines.{node_line}
 use Rattle.fuxi_node.specs.declared.taking.Stop.{Stop}
 use Rattle.fuxi_node.specs.declared.taking.Stop.TheVariants.{Ends}
 use Rattle.fuxi_node.specs.NodeRuns.{Ending, AtEnd, AtBadLine, AtLimit, ending_at, ending_from}

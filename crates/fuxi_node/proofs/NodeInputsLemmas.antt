@@ -7,7 +7,7 @@ use Rattle.fuxi_io.specs.declared.status.Status.TheVariants.{OutOfMemory}
 use Rattle.fuxi_terms.specs.Cluster.{ClusterRecord}
 use Rattle.schedule_unit.specs.declared.party.MachineNo.{MachineNo}
 use Rattle.input_lines.specs.Openings.{HasCluster, StopsBefore}
-use Rattle.node_door.specs.Doors.{Told, WhereTold}
+use Rattle.fuxi_io.specs.Doors.{Told, WhereTold}
 use Rattle.fuxi_node.specs.NodeEnds.{Ended}
 use Rattle.fuxi_node.specs.NodeStarts.{agent_start}
 use Rattle.fuxi_node.specs.declared.kind.NodeKind.{NodeKind}

@@ -6,15 +6,15 @@ use Rattle.fuxi_io.specs.Causes.{Rose, TakesPart}
 use Rattle.fuxi_io.specs.declared.status.Status.{Status}
 use Rattle.fuxi_io.specs.declared.status.Status.TheVariants.{Done, Usage, BadInput, ReadFault, WriteFault, Limit, OutOfMemory, DiskFault, StaleEpoch, DamagedCheckpoint}
 use Rattle.schedule_text.specs.declared.event.LineFault.{LineFault}
-use Rattle.node_door.specs.Doors.{Told}
-use Rattle.node_rounds.specs.declared.rounds.RoundLine.{RoundLine}
-use Rattle.node_rounds.specs.declared.rounds.RoundLine.TheVariants.{Done as RoundDone, Fault, Bad, Stranger, Long}
-use Rattle.node_rounds.specs.Roles.{Role, OfAgent, OfApp, OfMaster, may_send}
-use Rattle.node_rounds.specs.Rounds.{Rounds, Meets, is_fault}
-use Rattle.node_party.specs.declared.line.NodeLine.{NodeLine}
-use Rattle.node_party.specs.declared.line.NodeLine.TheVariants.{Round as RoundWord, Serve}
-use Rattle.node_party.specs.PartyEvents.{NotHere, accepts}
-use Rattle.node_party.specs.NodeTexts.{answer_text, round_text}
+use Rattle.fuxi_io.specs.Doors.{Told}
+use Rattle.node_core.specs.declared.rounds.RoundLine.{RoundLine}
+use Rattle.node_core.specs.declared.rounds.RoundLine.TheVariants.{Done as RoundDone, Fault, Bad, Stranger, Long}
+use Rattle.node_core.specs.Roles.{Role, OfAgent, OfApp, OfMaster, may_send}
+use Rattle.node_core.specs.Rounds.{Rounds, Meets, is_fault}
+use Rattle.node_core.specs.declared.line.NodeLine.{NodeLine}
+use Rattle.node_core.specs.declared.line.NodeLine.TheVariants.{Round as RoundWord, Serve}
+use Rattle.node_core.specs.PartyEvents.{NotHere, accepts}
+use Rattle.node_core.specs.NodeTexts.{answer_text, round_text}
 use Rattle.fuxi_node.specs.declared.taking.Stop.{Stop}
 use Rattle.fuxi_node.specs.declared.taking.Stop.TheVariants.{Ends, Disk}
 use Rattle.fuxi_node.specs.NodeRuns.{Node, Round, Played, Run, AtEnd, ended, then_is, played_as, behind, meets, takes}

@@ -18,12 +18,12 @@ use Rattle.schedule_text.specs.declared.event.LineFault.{LineFault}
 use Rattle.input_lines.specs.Contents.{content, is_skipped}
 use Rattle.input_lines.specs.InputStatuses.{event_fault, stop_status}
 use Rattle.input_lines.specs.Wholes.{IsNext, TakesLines, TakesSome}
-use Rattle.node_door.specs.Doors.{Told}
-use Rattle.node_rounds.specs.Roles.{Role}
-use Rattle.node_rounds.specs.Rounds.{Breaks}
-use Rattle.node_party.specs.NodeLines.{node_line}
-use Rattle.node_party.specs.PartyEvents.{accepts}
-use Rattle.node_party.specs.NodeTexts.{state_text}
+use Rattle.fuxi_io.specs.Doors.{Told}
+use Rattle.node_core.specs.Roles.{Role}
+use Rattle.node_core.specs.Rounds.{Breaks}
+use Rattle.node_core.specs.NodeLines.{node_line}
+use Rattle.node_core.specs.PartyEvents.{accepts}
+use Rattle.node_core.specs.NodeTexts.{state_text}
 use Rattle.fuxi_node.specs.declared.taking.DiskFailed.{DiskFailed}
 use Rattle.fuxi_node.specs.declared.taking.Stop.TheVariants.{Ends, Disk}
 use Rattle.fuxi_node.specs.NodeRuns.{Node, Round, Run, Ending, AtEnd, AtBadLine, AtLimit, ended, behind, then_is, takes, within_limits, role_run, role_after, pieces}

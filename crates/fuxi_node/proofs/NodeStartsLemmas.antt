@@ -9,8 +9,8 @@ use Rattle.fuxi_io.specs.Reading.{read_ahead}
 use Rattle.fuxi_io.specs.declared.status.Status.TheVariants.{OutOfMemory}
 use Rattle.cluster_desc.specs.declared.cluster.Machine.{Machine}
 use Rattle.cluster_desc.specs.Records.{machine_of as machine_from}
-use Rattle.node_door.specs.Doors.{Told, WhereTold}
-use Rattle.node_rounds.specs.Roles.{Role}
+use Rattle.fuxi_io.specs.Doors.{Told, WhereTold}
+use Rattle.node_core.specs.Roles.{Role}
 use Rattle.fuxi_node.specs.NodeEnds.{Start, Ended, EndsByLines}
 
 -- nothing was taken

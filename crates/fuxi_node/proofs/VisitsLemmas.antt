@@ -1,8 +1,8 @@
 -- Rounds at a door, and then more.
 use Rattle.std.proofs.Common.{◌≡◌, ℕ, ◌+◌, ◌≤◌, List, [], ◌∷◌, ◌++◌, refl, sym, ◌∙◌, ap, subst, arith}
-use Rattle.node_door.specs.Doors.{Told}
-use Rattle.node_rounds.specs.Rounds.{visited}
-use Rattle.node_party.specs.PartyEvents.{accepts}
+use Rattle.fuxi_io.specs.Doors.{Told}
+use Rattle.node_core.specs.Rounds.{visited}
+use Rattle.node_core.specs.PartyEvents.{accepts}
 use Rattle.fuxi_node.specs.NodeRuns.{Round, Played}
 use Rattle.fuxi_node.specs.Visits.{Visit, round_in, played_in, rounds_of, played_of, walked, AreVisits, marks, RoseBy, WasAt}
 

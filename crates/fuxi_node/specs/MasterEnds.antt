@@ -7,14 +7,14 @@ use Rattle.fuxi_io.specs.declared.status.LimitOf.TheVariants.{Lines, Packets, By
 use Rattle.fuxi_io.specs.declared.status.Status.{Status}
 use Rattle.fuxi_io.specs.declared.status.Status.TheVariants.{Done, Usage, BadInput, ReadFault, WriteFault, Limit, OutOfMemory, DiskFault, StaleEpoch, DamagedCheckpoint}
 use Rattle.fuxi_terms.specs.Limits.{most_records}
-use Rattle.written_roles.specs.HardState.{HardState, Raise, hard_step}
-use Rattle.written_roles.specs.Refusals.{Refusal, NotRising, HardFull}
+use Rattle.spec_roles.specs.HardState.{HardState, Raise, hard_step}
+use Rattle.spec_roles.specs.Refusals.{Refusal, NotRising, HardFull}
 use Rattle.hard_state.specs.HardFiles.{SyncsAll, records_of}
 use Rattle.hard_state.specs.declared.fault.HardFault.{HardFault}
 use Rattle.hard_state.specs.declared.fault.HardFault.TheVariants.{Stale, Fenced, Known, NoJob, Ended as HasEnded, AlreadyBanned, NotBanned, Full, NotCheckpoint, DiskFault as NoDisk, OutOfMemory as NoMemory}
-use Rattle.master_node.specs.OpenedMasters.{Starts}
-use Rattle.node_door.specs.Doors.{Told}
-use Rattle.node_rounds.specs.Roles.{Role, OfAgent, OfApp, OfMaster}
+use Rattle.node_parties.specs.OpenedMasters.{Starts}
+use Rattle.fuxi_io.specs.Doors.{Told}
+use Rattle.node_core.specs.Roles.{Role, OfAgent, OfApp, OfMaster}
 use Rattle.fuxi_node.specs.declared.taking.DiskFailed.{DiskFailed}
 use Rattle.fuxi_node.specs.NodeEnds.{Start, Ended}
 

@@ -8,11 +8,11 @@ use Rattle.fuxi_io.specs.declared.status.LimitOf.TheVariants.{Lines, Packets, By
 use Rattle.fuxi_io.specs.declared.status.Status.{Status}
 use Rattle.fuxi_io.specs.declared.status.Status.TheVariants.{Done, Usage, BadInput, ReadFault, WriteFault, Limit, OutOfMemory, DiskFault, StaleEpoch, DamagedCheckpoint}
 use Rattle.input_lines.specs.Wholes.{whole_lines, TakesSome, WritesLast}
-use Rattle.node_door.specs.Doors.{Told}
-use Rattle.node_rounds.specs.Roles.{Role}
-use Rattle.node_rounds.specs.Rounds.{Breaks}
-use Rattle.node_party.specs.PartyEvents.{accepts}
-use Rattle.node_party.specs.NodeHalts.{FitsEither}
+use Rattle.fuxi_io.specs.Doors.{Told}
+use Rattle.node_core.specs.Roles.{Role}
+use Rattle.node_core.specs.Rounds.{Breaks}
+use Rattle.node_core.specs.PartyEvents.{accepts}
+use Rattle.node_core.specs.NodeHalts.{FitsEither}
 use Rattle.fuxi_node.specs.declared.taking.DiskFailed.{DiskFailed}
 use Rattle.fuxi_node.specs.NodeRuns.{Node, Run, Ending, AtEnd, AtBadLine, AtLimit, role_run, ending_from, pieces}
 use Rattle.fuxi_node.specs.Visits.{Visit, rounds_of, played_of, WasAt}

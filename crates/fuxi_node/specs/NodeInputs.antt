@@ -8,10 +8,10 @@ use Rattle.fuxi_io.specs.declared.status.Status.{Status}
 use Rattle.fuxi_io.specs.declared.status.Status.TheVariants.{Done, Usage, BadInput, ReadFault, WriteFault, Limit, OutOfMemory, DiskFault, StaleEpoch, DamagedCheckpoint}
 use Rattle.fuxi_terms.specs.Cluster.{ClusterRecord}
 use Rattle.fuxi_terms.specs.Limits.{most_jobs, most_machines, most_units}
-use Rattle.written_roles.specs.HardState.{HardState, Raise, hard_step}
+use Rattle.spec_roles.specs.HardState.{HardState, Raise, hard_step}
 use Rattle.hard_state.specs.HardFiles.{records_of}
 use Rattle.input_lines.specs.Openings.{Opening, Opens, BadAt, TooMany, opening_from, HasCluster, StopsBefore}
-use Rattle.node_door.specs.Doors.{Told}
+use Rattle.fuxi_io.specs.Doors.{Told}
 use Rattle.fuxi_node.specs.NodeEnds.{Ended, EndsBy}
 use Rattle.fuxi_node.specs.NodeRuns.{Ending, AtEnd, AtBadLine, AtLimit, ending_from}
 use Rattle.fuxi_node.specs.NodeStarts.{agent_start, app_start, master_start}

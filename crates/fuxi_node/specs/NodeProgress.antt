@@ -11,11 +11,11 @@ use Rattle.fuxi_io.specs.declared.status.Status.TheVariants.{Done, Usage, BadInp
 use Rattle.schedule_text.specs.declared.event.LineFault.{LineFault}
 use Rattle.input_lines.specs.InputStatuses.{event_fault}
 use Rattle.input_lines.specs.Wholes.{AreTaken}
-use Rattle.node_door.specs.Doors.{Told}
-use Rattle.node_rounds.specs.Roles.{Role}
-use Rattle.node_rounds.specs.Rounds.{Breaks}
-use Rattle.node_party.specs.declared.line.NodeLine.{NodeLine}
-use Rattle.node_party.specs.PartyEvents.{accepts}
+use Rattle.fuxi_io.specs.Doors.{Told}
+use Rattle.node_core.specs.Roles.{Role}
+use Rattle.node_core.specs.Rounds.{Breaks}
+use Rattle.node_core.specs.declared.line.NodeLine.{NodeLine}
+use Rattle.node_core.specs.PartyEvents.{accepts}
 use Rattle.fuxi_node.specs.declared.taking.Stop.{Stop}
 use Rattle.fuxi_node.specs.declared.taking.Stop.TheVariants.{Ends, Disk}
 use Rattle.fuxi_node.specs.NodeRuns.{Node, Round, Played, Run, then_is, behind, takes, role_run, role_after, ending_from}

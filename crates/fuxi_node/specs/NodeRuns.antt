@@ -7,14 +7,14 @@ use Rattle.fuxi_terms.specs.Limits.{most_line_bytes, most_lines}
 use Rattle.schedule_text.specs.declared.event.LineFault.{LineFault}
 use Rattle.input_lines.specs.Contents.{content, is_skipped}
 use Rattle.input_lines.specs.InputStatuses.{event_fault}
-use Rattle.node_rounds.specs.Roles.{Role}
-use Rattle.node_rounds.specs.HeardPackets.{Came}
-use Rattle.node_rounds.specs.Rounds.{Rounded, rounded}
-use Rattle.node_party.specs.declared.line.NodeLine.{NodeLine}
-use Rattle.node_party.specs.declared.line.NodeLine.TheVariants.{Round as RoundLine, Serve, Show, Event}
-use Rattle.node_party.specs.NodeLines.{node_line}
-use Rattle.node_party.specs.PartyEvents.{Commanded, NotHere, commanded, accepts}
-use Rattle.node_party.specs.NodeTexts.{answer_text, round_text, state_text}
+use Rattle.node_core.specs.Roles.{Role}
+use Rattle.node_core.specs.HeardPackets.{Came}
+use Rattle.node_core.specs.Rounds.{Rounded, rounded}
+use Rattle.node_core.specs.declared.line.NodeLine.{NodeLine}
+use Rattle.node_core.specs.declared.line.NodeLine.TheVariants.{Round as RoundLine, Serve, Show, Event}
+use Rattle.node_core.specs.NodeLines.{node_line}
+use Rattle.node_core.specs.PartyEvents.{Commanded, NotHere, commanded, accepts}
+use Rattle.node_core.specs.NodeTexts.{answer_text, round_text, state_text}
 
 -- a node: its party, and how many events it took
 pub record Node : Type 0 where

@@ -3,11 +3,11 @@ use Rattle.std.specs.Prelude.{ℕ, List}
 use Rattle.fuxi_terms.specs.Cluster.{ClusterRecord, machine_of}
 use Rattle.fuxi_terms.specs.Limits.{most_frames}
 use Rattle.fuxi_terms.specs.Padded.{padded}
-use Rattle.written_roles.specs.Agents.{new_agent}
-use Rattle.written_roles.specs.Apps.{new_app}
-use Rattle.written_roles.specs.HardState.{HardState}
-use Rattle.written_roles.specs.MasterRoles.{master_started}
-use Rattle.node_rounds.specs.Roles.{OfAgent, OfApp, OfMaster}
+use Rattle.spec_roles.specs.Agents.{new_agent}
+use Rattle.spec_roles.specs.Apps.{new_app}
+use Rattle.spec_roles.specs.HardState.{HardState}
+use Rattle.spec_roles.specs.MasterRoles.{master_started}
+use Rattle.node_core.specs.Roles.{OfAgent, OfApp, OfMaster}
 use Rattle.fuxi_node.specs.NodeEnds.{Start, start_of}
 
 -- the agent of a machine of the cluster, so many lines having gone before

@@ -1,9 +1,9 @@
 -- What the rounds of a run were at the door.
 use Rattle.std.specs.Prelude.{◌≡◌, ℕ, ◌+◌, ◌-◌, ◌^◌, ◌≤◌, min, cond, List, [], ◌∷◌, map, Option}
 use Rattle.std.specs.List.{AllByRecursion}
-use Rattle.node_door.specs.Doors.{Talk, Told}
-use Rattle.node_rounds.specs.Rounds.{Meets, is_fault, visited}
-use Rattle.node_party.specs.PartyEvents.{accepts}
+use Rattle.fuxi_io.specs.Doors.{Talk, Told}
+use Rattle.node_core.specs.Rounds.{Meets, is_fault, visited}
+use Rattle.node_core.specs.PartyEvents.{accepts}
 use Rattle.fuxi_node.specs.NodeRuns.{Played, Round, played_as}
 
 -- a round, and its connection, where one was opened

@@ -5,7 +5,7 @@ ghost use Rattle.fuxi_io.specs.Causes.{Rose};
 ghost use Rattle.fuxi_io.specs.Reading.{rest_of};
 ghost use Rattle.fuxi_terms.specs.Limits.{most_jobs, most_lines, most_units};
 ghost use Rattle.input_lines.specs.Wholes.{IsReady};
-ghost use Rattle.node_door.specs.Doors.{WhereTold};
+ghost use Rattle.fuxi_io.specs.Doors.{WhereTold};
 ghost use Rattle.fuxi_node.specs.NodeEnds.{Ended, EndsByLines, IsRunStatus};
 ghost use Rattle.fuxi_node.specs.NodeStarts.{app_start};
 
@@ -13,11 +13,10 @@ use crate::run::run_node;
 use crate::taking::DiskFailed;
 use cluster_desc::Cluster;
 use fuxi_io::law::is_little_ahead;
-use fuxi_io::{LimitOf, LineReader, LineStop, Sink, Source, Status};
+use fuxi_io::{Door, LimitOf, LineReader, LineStop, Sink, Source, Status};
 use fuxi_terms::OutOfMemory;
-use node_door::Door;
-use node_party::NoDisk;
-use peer_nodes::AppNode;
+use node_core::NoDisk;
+use node_parties::AppNode;
 use schedule_unit::AppNo;
 use std::alloc::Global;
 

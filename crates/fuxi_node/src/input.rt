@@ -6,7 +6,7 @@ ghost use Rattle.fuxi_io.specs.Reading.{rest_of};
 ghost use Rattle.fuxi_terms.specs.Limits.{most_lines};
 ghost use Rattle.hard_state.specs.HardFiles.{KeepsDamaged};
 ghost use Rattle.input_lines.specs.Wholes.{IsReady};
-ghost use Rattle.node_door.specs.Doors.{WhereTold};
+ghost use Rattle.fuxi_io.specs.Doors.{WhereTold};
 ghost use Rattle.fuxi_io.specs.Lines.{lines_of};
 ghost use Rattle.input_lines.specs.Openings.{Opens};
 ghost use Rattle.fuxi_node.specs.NodeEnds.{EndsBy};
@@ -18,9 +18,8 @@ use crate::apps::run_app;
 use crate::kind::NodeKind;
 use crate::masters::run_master;
 use cluster_desc::Cluster;
-use fuxi_io::{Disk, LimitOf, LineReader, LineStop, Sink, Source, Status};
+use fuxi_io::{Disk, Door, LimitOf, LineReader, LineStop, Sink, Source, Status};
 use input_lines::read_cluster_line;
-use node_door::Door;
 use std::alloc::Global;
 
 // Runs a node over the lines behind that of the cluster, which is the last one that the reader gave.

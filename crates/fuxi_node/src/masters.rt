@@ -6,7 +6,7 @@ ghost use Rattle.fuxi_io.specs.Reading.{rest_of};
 ghost use Rattle.fuxi_terms.specs.Limits.{most_lines};
 ghost use Rattle.hard_state.specs.HardFiles.{KeepsDamaged};
 ghost use Rattle.input_lines.specs.Wholes.{IsReady};
-ghost use Rattle.node_door.specs.Doors.{WhereTold};
+ghost use Rattle.fuxi_io.specs.Doors.{WhereTold};
 ghost use Rattle.fuxi_node.specs.NodeEnds.{EndsByLines};
 ghost use Rattle.fuxi_node.specs.NodeStarts.{master_start};
 ghost use Rattle.fuxi_node.specs.MasterEnds.{LeavesFile, MasterEnded, TellsFile, start_status};
@@ -15,11 +15,10 @@ use crate::run::run_node;
 use crate::taking::DiskFailed;
 use cluster_desc::Cluster;
 use fuxi_io::law::is_little_ahead;
-use fuxi_io::{Disk, LimitOf, LineReader, LineStop, Sink, Source, Status};
+use fuxi_io::{Disk, Door, LimitOf, LineReader, LineStop, Sink, Source, Status};
 use fuxi_terms::limits::MOST_RECORDS;
 use hard_state::HardFault;
-use master_node::MasterNode;
-use node_door::Door;
+use node_parties::MasterNode;
 use std::alloc::Global;
 
 // The status of a master that did not start.

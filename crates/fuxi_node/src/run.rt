@@ -6,19 +6,18 @@ ghost use Rattle.fuxi_io.specs.Reading.{rest_of};
 ghost use Rattle.fuxi_terms.specs.Limits.{most_frames, most_steps, most_lines};
 ghost use Rattle.input_lines.specs.Contents.{is_skipped};
 ghost use Rattle.input_lines.specs.Wholes.{IsReady};
-ghost use Rattle.node_door.specs.Doors.{WhereTold};
-ghost use Rattle.node_rounds.specs.Roles.{Role};
-ghost use Rattle.node_party.specs.NodeLines.{node_line};
-ghost use Rattle.node_party.specs.NodeTexts.{state_text};
+ghost use Rattle.fuxi_io.specs.Doors.{WhereTold};
+ghost use Rattle.node_core.specs.Roles.{Role};
+ghost use Rattle.node_core.specs.NodeLines.{node_line};
+ghost use Rattle.node_core.specs.NodeTexts.{state_text};
 ghost use Rattle.fuxi_node.specs.NodeRuns.{Node as WrittenNode};
 ghost use Rattle.fuxi_node.specs.NodeEnds.{Ended, EndsByLines, FitsNow, FitsOneNow, IsRunStatus, start_of};
 ghost use Rattle.fuxi_node.specs.NodeProgress.{WritesEnd, TakesCounted, KeepsTold, IsLastStatus, IsLineStop, IsNone, IsSaid};
 
 use crate::taking::{DiskFailed, Stop, take_line, write_state};
-use fuxi_io::{Disk, Got, InputFault, LimitOf, LineReader, LineStop, Sink, Source, Status};
+use fuxi_io::{Disk, Door, Got, InputFault, LimitOf, LineReader, LineStop, Sink, Source, Status};
 use input_lines::{content, is_skipped, law, stop_status};
-use node_door::Door;
-use node_party::Node;
+use node_core::Node;
 use std::alloc::Global;
 
 // Takes a line, of a node that took so many events; answers how many it took then.

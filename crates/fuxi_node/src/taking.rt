@@ -5,24 +5,25 @@ ghost use Rattle.fuxi_io.specs.Causes.{Rose};
 ghost use Rattle.fuxi_io.specs.Disks.{Told as Moments};
 ghost use Rattle.fuxi_terms.specs.Limits.{most_frames, most_steps};
 ghost use Rattle.schedule_text.specs.Writing.{IsLineEvent};
-ghost use Rattle.node_door.specs.Doors.{WhereTold};
-ghost use Rattle.node_rounds.specs.Roles.{Role, Keeps};
-ghost use Rattle.node_rounds.specs.Rounds.{Rounds, Breaks};
-ghost use Rattle.node_party.specs.declared.line.NodeLine.TheVariants.{Round, Serve, Show, Event as EventLine};
-ghost use Rattle.node_party.specs.PartyEvents.{accepts};
-ghost use Rattle.node_party.specs.NodeLines.{node_line};
-ghost use Rattle.node_party.specs.NodeTexts.{answer_text, as_answer, state_text};
+ghost use Rattle.fuxi_io.specs.Doors.{WhereTold};
+ghost use Rattle.node_core.specs.Roles.{Role, Keeps};
+ghost use Rattle.node_core.specs.Rounds.{Rounds, Breaks};
+ghost use Rattle.node_core.specs.declared.line.NodeLine.TheVariants.{Round, Serve, Show, Event as EventLine};
+ghost use Rattle.node_core.specs.PartyEvents.{accepts};
+ghost use Rattle.node_core.specs.NodeLines.{node_line};
+ghost use Rattle.node_core.specs.NodeTexts.{answer_text, as_answer, state_text};
 ghost use Rattle.fuxi_node.specs.NodeRuns.{Node as WrittenNode};
 ghost use Rattle.fuxi_node.specs.NodeEnds.{FitsNow, FitsOneNow};
 ghost use Rattle.fuxi_node.specs.NodeProgress.{WritesText, TakesQuietly, TakesLine, KeepsTold, IsLineStop, IsNone, IsSaid, IsWriteStop};
 
-use fuxi_io::{Disk, InputFault, Sink, Status, write_all_of};
+use fuxi_io::{Disk, Door, InputFault, Sink, Status, write_all_of};
 use fuxi_terms::OutOfMemory;
 use input_lines::event_status;
-use node_door::Door;
-use node_party::{Answer, Node, NodeLine, law, push_answer, push_state, read_line, write_round};
-use node_rounds::{RoundLine, round, serve};
-use party_orders::Halt;
+use node_core::{
+    Answer, Node, NodeLine, RoundLine, law, push_answer, push_state, read_line, round, serve,
+    write_round,
+};
+use party_commands::CommandError;
 use schedule_text::Event;
 use std::alloc::Global;
 
@@ -108,8 +109,8 @@ fn take_event<C: Node, O: Sink, D: Disk>(
 {
     let (core, answer) = match core.command(alloc, event, disk) {
         Ok(both) => both,
-        Err(Halt::Disk) => return Err(Stop::Disk),
-        Err(Halt::Memory) => return Err(Stop::Ends(Status::OutOfMemory)),
+        Err(CommandError::Disk) => return Err(Stop::Disk),
+        Err(CommandError::Memory) => return Err(Stop::Ends(Status::OutOfMemory)),
     };
     match write_answer(alloc, &answer, out) {
         Ok(()) => Ok(core),

@@ -230,13 +230,20 @@ impl GrantTable {
 
     /// What the jobs of the group have in all, at most 256,000,000,000,000 of each resource, and nothing of a
     /// resource that the cluster does not have. The cluster need not have the group.
-    pub fn used_by(&self, group: GroupNo) -> &Res
+    pub fn used_by(&self, group: GroupNo) -> Res
         requires { group.0 < 32 }
-        ensures used { (i : ℕ) → at_place result.now.q i ≡ usage_at (as_known self.now.jobs) group.0 i self.now.entries }
+        ensures used { (i : ℕ) → at_place result.q i ≡ usage_at (as_known self.now.jobs) group.0 i self.now.entries }
         ensures within { (i : ℕ) → usage_at (as_known self.now.jobs) group.0 i self.now.entries ≤ 256000000000000 }
         ensures beyond { (i : ℕ) → self.now.cluster.resources ≤ i → usage_at (as_known self.now.jobs) group.0 i self.now.entries ≡ 0 }
     {
-        &self.usages[group.0 as usize]
+        self.usages[group.0 as usize]
+    }
+
+    /// Says that each running total is that of the entries and within its bounds, and that the jobs and the cluster are valid.
+    pub fn is_sound(&self)
+        ensures { IsSound self.now }
+    {
+        let _ = &self.cluster;
     }
 
     /// The cluster.

@@ -2,7 +2,7 @@
 use Rattle.std.proofs.Common.{◌≡◌, inl, ℕ, List, Option, None, Some, IfSome, Result, Ok, Err, refl, sym, ◌∙◌, ap, subst}
 use Rattle.fuxi_io.specs.Disks.{Moment, Told, IsImage, Leaves}
 use Rattle.fuxi_terms.specs.Limits.{most_records}
-use Rattle.written_roles.specs.HardState.{HardState, empty_hard}
+use Rattle.spec_roles.specs.HardState.{HardState, empty_hard}
 use Rattle.hard_state.specs.Checkpoints.{Opened}
 use Rattle.hard_state.specs.HardFiles.{IsAtRest, KeepsDamaged, Kept, opened_as, reads_as, records_of, taken, value_of}
 use Rattle.hard_state.proofs.Images.{synced_image}

@@ -9,7 +9,7 @@ use Rattle.std.specs.List.{list_all}
 use Rattle.fuxi_terms.specs.Cluster.{JobRecord, is_valid_job, is_valid_unit, is_between}
 use Rattle.fuxi_terms.proofs.Booleans.{both_true}
 use Rattle.fuxi_terms.specs.Jobs.{KnownJob, job_of, is_known}
-use Rattle.written_roles.specs.HardState.{with_ended}
+use Rattle.spec_roles.specs.HardState.{with_ended}
 use Rattle.hard_state.specs.Index.{job_at, count_used, IsIndex}
 
 -- nothing is submitted

@@ -1,3 +1,7 @@
+pub mod Front
+pub mod Back
+pub mod Made
+pub mod ByKind
 pub mod IndexLemmas
 pub mod BansLemmas
 pub mod Images

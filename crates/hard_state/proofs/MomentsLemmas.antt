@@ -2,10 +2,10 @@
 use Rattle.std.proofs.Common.{◌≡◌, ◌≢◌, inl, inr, ℕ, ◌+◌, ◌^◌, ◌<◌, ◌≤◌, List, [], ◌∷◌, length, Option, None, Some, Result, Ok, Err, refl, sym, ◌∙◌, ap, subst, arith}
 use Rattle.fuxi_io.specs.Disks.{Moment, Told, overwritten, Writes, WhereTold}
 use Rattle.fuxi_terms.specs.Limits.{most_records}
-use Rattle.written_roles.specs.HardState.{HardState, HardEvent, Raise, Submission as Submitting, Finishing, Banning, Unbanning, hard_step}
-use Rattle.hard_records.specs.RecordBodies.{body_of, record_in, IsWithinLimits}
-use Rattle.hard_records.specs.declared.records.Record.{Record}
-use Rattle.hard_records.specs.declared.records.Record.TheVariants.{Fence, Submission, Finish, Ban, Unban}
+use Rattle.spec_roles.specs.HardState.{HardState, HardEvent, Raise, Submission as Submitting, Finishing, Banning, Unbanning, hard_step}
+use Rattle.hard_state.specs.RecordBodies.{body_of, record_in, IsWithinLimits}
+use Rattle.hard_state.specs.declared.records.Record.{Record}
+use Rattle.hard_state.specs.declared.records.Record.TheVariants.{Fence, Submission, Finish, Ban, Unban}
 use Rattle.hard_state.specs.Checkpoints.{behind_gate}
 use Rattle.hard_state.specs.DiskCalls.{DiskCall, Write, Sync, served, MakesCalls}
 use Rattle.hard_state.specs.Gates.{WritesThrough, appending_calls, appended}

@@ -4,9 +4,9 @@ use Rattle.std.proofs.lemmas.List.{take_all, drop_all, drop-drop, drop-take}
 use Rattle.std.proofs.lemmas.Bool.Decides.{nat_tests}
 use Rattle.fuxi_io.specs.Disks.{Moment, Told, synced_moment, after_write, after_sync, then_told, Writes, Syncs, WhereTold, LeavesAlways}
 use Rattle.fuxi_terms.specs.Limits.{most_records}
-use Rattle.written_roles.specs.HardState.{HardState, empty_hard}
-use Rattle.hard_records.specs.RecordBodies.{record_in}
-use Rattle.hard_records.specs.declared.records.Record.{Record}
+use Rattle.spec_roles.specs.HardState.{HardState, empty_hard}
+use Rattle.hard_state.specs.RecordBodies.{record_in}
+use Rattle.hard_state.specs.declared.records.Record.{Record}
 use Rattle.hard_state.specs.Gates.{WritesThrough}
 use Rattle.hard_state.specs.Checkpoints.{Opened, Closed, Damaged, Whole, found_at, read_on}
 use Rattle.hard_state.specs.FilePieces.{Piece, IsPieceOf, Reaches, end_of}

@@ -5,11 +5,11 @@ use Rattle.fuxi_io.specs.Disks.{Moment, Told, synced_moment, WhereTold, LeavesAl
 use Rattle.fuxi_terms.specs.Jobs.{is_known, has_ended}
 use Rattle.fuxi_terms.specs.Limits.{most_records}
 use Rattle.fuxi_terms.specs.Numbers.{has_number}
-use Rattle.written_roles.specs.HardState.{HardState, HardEvent, Raise, Submission as Submitting, Finishing, Banning, Unbanning, hard_step, hard_after, hard_tests, empty_hard, is_full, is_fenced, is_not_rising}
-use Rattle.written_roles.specs.Refusals.{Refusal, Fenced, Known, NoJob, Ended, AlreadyBanned, NotBanned, first_refusal}
-use Rattle.hard_records.specs.RecordBodies.{body_of, record_in}
-use Rattle.hard_records.specs.declared.records.Record.{Record}
-use Rattle.hard_records.specs.declared.records.Record.TheVariants.{Fence, Submission, Finish, Ban, Unban}
+use Rattle.spec_roles.specs.HardState.{HardState, HardEvent, Raise, Submission as Submitting, Finishing, Banning, Unbanning, hard_step, hard_after, hard_tests, empty_hard, is_full, is_fenced, is_not_rising}
+use Rattle.spec_roles.specs.Refusals.{Refusal, Fenced, Known, NoJob, Ended, AlreadyBanned, NotBanned, first_refusal}
+use Rattle.hard_state.specs.RecordBodies.{body_of, record_in}
+use Rattle.hard_state.specs.declared.records.Record.{Record}
+use Rattle.hard_state.specs.declared.records.Record.TheVariants.{Fence, Submission, Finish, Ban, Unban}
 use Rattle.hard_state.specs.Gates.{IsAppending, Appends, appended}
 use Rattle.hard_state.specs.Checkpoints.{behind_gate}
 use Rattle.hard_state.specs.HardFiles.{event_of, epoch_of, made, record_taken, taken, reads_as, Kept, opened_as, IsBeforeOrAfter, WritesStep, IsAskedBy}

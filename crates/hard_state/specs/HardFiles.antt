@@ -4,11 +4,11 @@ use Rattle.fuxi_io.specs.Disks.{Moment, Told, synced_moment, then_told, after_sy
 use Rattle.fuxi_terms.specs.Cluster.{is_valid_job}
 use Rattle.fuxi_terms.specs.Jobs.{KnownJob, is_known}
 use Rattle.fuxi_terms.specs.Limits.{most_records, most_jobs, most_machines}
-use Rattle.written_roles.specs.HardState.{HardState, HardEvent, Raise, Submission as Submitting, Finishing, Banning, Unbanning, hard_step, empty_hard}
-use Rattle.written_roles.specs.Refusals.{Refusal, NotRising, HardFull, Fenced, Known, NoJob, Ended, AlreadyBanned, NotBanned}
-use Rattle.hard_records.specs.RecordBodies.{record_in}
-use Rattle.hard_records.specs.declared.records.Record.{Record}
-use Rattle.hard_records.specs.declared.records.Record.TheVariants.{Fence, Submission, Finish, Ban, Unban}
+use Rattle.spec_roles.specs.HardState.{HardState, HardEvent, Raise, Submission as Submitting, Finishing, Banning, Unbanning, hard_step, empty_hard}
+use Rattle.spec_roles.specs.Refusals.{Refusal, NotRising, HardFull, Fenced, Known, NoJob, Ended, AlreadyBanned, NotBanned}
+use Rattle.hard_state.specs.RecordBodies.{record_in}
+use Rattle.hard_state.specs.declared.records.Record.{Record}
+use Rattle.hard_state.specs.declared.records.Record.TheVariants.{Fence, Submission, Finish, Ban, Unban}
 use Rattle.hard_state.specs.Gates.{IsSynced}
 use Rattle.hard_state.specs.Checkpoints.{Opened, read_on, read_file, found_at, Closed as ClosedThere, Damaged as DamagedThere, Whole as WholeThere}
 use Rattle.hard_state.specs.declared.jobs.Entry.{Entry}

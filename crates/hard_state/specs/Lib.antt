@@ -1,3 +1,5 @@
+pub mod RecordBodies
+pub mod UnitRecords
 pub mod DiskCalls
 pub mod Gates
 pub mod Checkpoints

@@ -1,10 +1,10 @@
 -- The moments of the writing calls of a checkpoint.
 use Rattle.std.specs.Prelude.{◌≡◌, ℕ, ◌<◌, List, length, take, Result, Ok, Err}
 use Rattle.fuxi_io.specs.Disks.{Moment, Told}
-use Rattle.written_roles.specs.HardState.{HardState, HardEvent, Raise, Submission as Submitting, Finishing, Banning, Unbanning, hard_step}
-use Rattle.hard_records.specs.RecordBodies.{body_of, finish, ban, unban, IsWithinLimits}
-use Rattle.hard_records.specs.declared.records.Record.{Record}
-use Rattle.hard_records.specs.declared.records.Record.TheVariants.{Fence, Submission}
+use Rattle.spec_roles.specs.HardState.{HardState, HardEvent, Raise, Submission as Submitting, Finishing, Banning, Unbanning, hard_step}
+use Rattle.hard_state.specs.RecordBodies.{body_of, finish, ban, unban, IsWithinLimits}
+use Rattle.hard_state.specs.declared.records.Record.{Record}
+use Rattle.hard_state.specs.declared.records.Record.TheVariants.{Fence, Submission}
 use Rattle.hard_state.specs.Checkpoints.{behind_gate}
 use Rattle.hard_state.specs.DiskCalls.{DiskCall, all_served, StopsWithin}
 use Rattle.hard_state.specs.Gates.{appending_calls}

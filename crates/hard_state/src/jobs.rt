@@ -2,7 +2,7 @@
 ghost use Rattle.std.specs.Prelude.{◌≡◌, ◌≤◌, ◌<◌, length, map, get_or, true, false, Some, None, IfOk, IfSome, IsNone, vec_capacity};
 ghost use Rattle.fuxi_terms.specs.Cluster.{is_valid_job};
 ghost use Rattle.fuxi_terms.specs.Jobs.{job_of, is_known};
-ghost use Rattle.written_roles.specs.HardState.{with_job, with_ended};
+ghost use Rattle.spec_roles.specs.HardState.{with_job, with_ended};
 ghost use Rattle.hard_state.specs.HardFiles.{known_job};
 ghost use Rattle.hard_state.specs.Index.{IsIndex};
 

@@ -9,7 +9,7 @@ ghost use Rattle.fuxi_terms.specs.Cluster.{is_valid_job};
 ghost use Rattle.fuxi_terms.specs.Jobs.{job_of, is_known, has_ended};
 ghost use Rattle.fuxi_terms.specs.Limits.{most_jobs, most_machines};
 ghost use Rattle.fuxi_terms.specs.Numbers.{has_number, with_number, without_number};
-ghost use Rattle.written_roles.specs.HardState.{with_job, with_ended};
+ghost use Rattle.spec_roles.specs.HardState.{with_job, with_ended};
 ghost use Rattle.hard_state.specs.HardFiles.{known_job};
 
 use crate::bans::NumberSet;

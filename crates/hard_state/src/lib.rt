@@ -1,14 +1,17 @@
-//! What every master has to find again: the hard state, in a checkpoint on a disk.
+//! What every master has to find again: the hard state, in a checkpoint on a disk, record by record.
 #![tactic(auto)]
 
 mod bans;
 mod fault;
 mod gate;
 mod hard;
+mod job;
 mod jobs;
 mod known;
+pub mod law;
 mod moments;
 mod opening;
+mod records;
 mod state;
 mod window;
 
@@ -18,3 +21,4 @@ pub use fuxi_terms::OutOfMemory;
 pub use hard::Hard;
 pub use known::Known;
 pub use moments::moments_stand;
+pub use records::{Record, read_record, write_record};

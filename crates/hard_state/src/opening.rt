@@ -7,12 +7,12 @@ ghost use Rattle.hard_state.specs.HardFiles.{Begins, IsOpeningFault, Settles, Sy
 
 use crate::fault::HardFault;
 use crate::gate::write_through;
+use crate::law;
 use crate::state::{Look, State};
 use crate::window::Window;
 use fuxi_io::{Disk, Failed};
 use fuxi_terms::OutOfMemory;
 use fuxi_terms::limits::MOST_RECORDS;
-use hard_records::law;
 use std::alloc::Global;
 
 // Brings all that was written onto the disk and answers its length.

@@ -5,15 +5,15 @@ ghost use Rattle.fuxi_terms.specs.Jobs.{KnownJob, job_of, is_known, has_ended};
 ghost use Rattle.fuxi_terms.specs.Numbers.{has_number};
 ghost use Rattle.fuxi_terms.specs.Cluster.{is_valid_job};
 ghost use Rattle.fuxi_terms.specs.Limits.{most_records, most_jobs, most_machines};
-ghost use Rattle.written_roles.specs.HardState.{Raise, Submission, Finishing, Banning, Unbanning, empty_hard, hard_step, hard_after, raised, submitted, finished, banned, unbanned};
-ghost use Rattle.hard_records.specs.RecordBodies.{IsWithinLimits};
+ghost use Rattle.spec_roles.specs.HardState.{Raise, Submission, Finishing, Banning, Unbanning, empty_hard, hard_step, hard_after, raised, submitted, finished, banned, unbanned};
+ghost use Rattle.hard_state.specs.RecordBodies.{IsWithinLimits};
 ghost use Rattle.hard_state.specs.HardFiles.{event_of, epoch_of, made, taken, IsAskedBy, IsAllowed, IsFound, Refuses};
 
 use crate::fault::HardFault;
 use crate::known::Known;
+use crate::{Record, law, read_record};
 use fuxi_terms::OutOfMemory;
 use fuxi_terms::limits::MOST_RECORDS;
-use hard_records::{Record, law, read_record};
 use schedule_unit::{AppNo, Job, MachineNo};
 use std::alloc::Global;
 use std::marker::Model;
@@ -29,7 +29,7 @@ pub struct State {
 impl Model for State {
     ghost use Rattle.std.specs.Prelude.{◌≤◌};
     ghost use Rattle.fuxi_terms.specs.Limits.{most_records};
-    ghost use Rattle.written_roles.specs.HardState.{HardState};
+    ghost use Rattle.spec_roles.specs.HardState.{HardState};
 
     ghost Value = { HardState };
 

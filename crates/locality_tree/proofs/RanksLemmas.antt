@@ -6,7 +6,7 @@ use Rattle.fuxi_terms.proofs.Members.{In}
 use Rattle.wait_queue.specs.declared.node.Entry.{Entry}
 use Rattle.wait_queue.specs.Queues.{Item, is_before, AreBehind, IsInOrder}
 use Rattle.locality_tree.specs.Trees.{RankedEntry, ranks_before, IsRanked}
-use Rattle.locality_tree.specs.Paths.{IsRanking, with_levels}
+use Rattle.locality_tree.specs.Paths.{IsRanking}
 use Rattle.locality_tree.proofs.MembersLemmas.{in_middle, in_wider, in_here, all_in, all_from}
 
 pub not_itself : (p : RankedEntry) → ranks_before p p ≡ true → ⊥
@@ -25,8 +25,16 @@ by_level p q l k e f less h = grind (arith, nat_tests)
 pub by_priority : (p q : RankedEntry) → q.0.priority < p.0.priority → ranks_before p q ≡ true
 by_priority p q h = grind (arith, nat_tests)
 
-pub by_order : (l : ℕ) (a b : Entry) → is_before a b ≡ true → ranks_before (a, l) (b, l) ≡ true
+pub by_order : (l : ℕ) (a b : Entry) → is_before true a b ≡ true → ranks_before (a, l) (b, l) ≡ true
 by_order l a b h = grind (arith, nat_tests)
+
+falls : (p q : RankedEntry) → ranks_before p q ≡ true → q.0.priority ≤ p.0.priority
+falls p q h = grind (arith, nat_tests)
+
+-- no pair in order has a greater priority than the head
+pub head_most : (p : RankedEntry) (ps : List RankedEntry) (q : RankedEntry) → IsRanked (p ∷ ps) → In q (p ∷ ps) → q.0.priority ≤ p.0.priority
+head_most p ps q h (inl e) = subst (λ (r : RankedEntry). r.0.priority ≤ p.0.priority) (sym e) (omega arith)
+head_most p ps q h (inr g) = falls p q (all_in (λ r. ranks_before p r ≡ true) ps q h.0 g)
 
 least_first : (pairs : List RankedEntry) (b : RankedEntry) → IsRanked pairs → In b pairs → ((q : RankedEntry) → In q pairs → (q ≡ b) ⊎ (ranks_before b q ≡ true)) → (rest : List RankedEntry) × (pairs ≡ b ∷ rest)
 least_first [] b r g least = absurd g
@@ -113,7 +121,12 @@ put_ranked p (q ∷ qs) r d = on (ranks_before p q) refl (put_ranked p qs r.1 d.
           rest,
         )
 
-one_ranks : (a b : Entry) (l k : ℕ) → is_before a b ≡ true → AreComparable (a, l) (b, k)
+-- every entry of a queue, each with its level
+abbrev pub with_levels : (Entry → ℕ) → List Item → List RankedEntry
+with_levels level [] = []
+with_levels level (i ∷ is) = (i.1, level i.1) ∷ with_levels level is
+
+one_ranks : (a b : Entry) (l k : ℕ) → is_before true a b ≡ true → AreComparable (a, l) (b, k)
 one_ranks a b l k h = by (nat_eq a.priority b.priority) refl (nat_lt k l) refl
   where
     by : (x : Bool) → nat_eq a.priority b.priority ≡ x → (y : Bool) → nat_lt k l ≡ y → AreComparable (a, l) (b, k)
@@ -125,7 +138,7 @@ pub record Sorted (level : Entry → ℕ) (items : List Item) : Type 0 where
   pub pairs : List RankedEntry
   pub ranking : IsRanking pairs (with_levels level items)
 
-pub sorted : (level : Entry → ℕ) (items : List Item) → IsInOrder items → Sorted level items
+pub sorted : (level : Entry → ℕ) (items : List Item) → IsInOrder true items → Sorted level items
 sorted level [] o = record { pairs = []; ranking = record { ranked = tt; sound = λ p g. g; complete = λ p g. g } }
 sorted level (i ∷ is) o =
     let s = sorted level is o.1 in
@@ -140,6 +153,6 @@ sorted level (i ∷ is) o =
       };
     }
   where
-    all_rank : (is : List Item) → AreBehind i.1 is → AllByRecursion (AreComparable (i.1, level i.1)) (with_levels level is)
+    all_rank : (is : List Item) → AreBehind true i.1 is → AllByRecursion (AreComparable (i.1, level i.1)) (with_levels level is)
     all_rank [] h = tt
     all_rank (j ∷ js) h = (one_ranks i.1 j.1 (level i.1) (level j.1) h.0, all_rank js h.1)

@@ -1,46 +1,71 @@
--- What a walk over the queue has left.
-use Rattle.std.specs.Prelude.{◌≡◌, ◌≢◌, ℕ, ◌+◌, ◌*◌, ◌-◌, ◌^◌, ◌&&◌, ◌||◌, ◌<◌, ◌≤◌, ⊤, Bool, true, false, cond, nat_lt, nat_eq, List, [], ◌∷◌, ◌++◌, Option, Some, None}
+-- What a walk over three queues has left.
+use Rattle.std.specs.Prelude.{◌≡◌, ℕ, ◌&&◌, ◌||◌, ◌<◌, ⊤, Bool, true, false, not, cond, nat_lt, List, [], ◌∷◌, ◌++◌, Option, Some, None}
+use Rattle.std.specs.Option.{option_map}
 use Rattle.fuxi_terms.proofs.Members.{In}
 use Rattle.slot_pool.specs.Pools.{value_at}
 use Rattle.slot_pool.specs.declared.pool.Slot.{Slot}
 use Rattle.wait_queue.specs.declared.node.Entry.{Entry}
 use Rattle.wait_queue.specs.declared.node.Node.{Node}
-use Rattle.wait_queue.specs.Queues.{Item, Stands, first_of, rank, entry_at}
-use Rattle.locality_tree.specs.declared.layout.UnitPlaces.{UnitPlaces}
-use Rattle.locality_tree.specs.declared.path.Look.{Look}
-use Rattle.locality_tree.specs.declared.path.Look.TheVariants.{Gives as LookGives, Passes, Ends}
+use Rattle.wait_queue.specs.declared.queue.Queue.{Queue}
+use Rattle.wait_queue.specs.Queues.{Item, Stands, first_of}
 use Rattle.locality_tree.specs.declared.path.Path.{Path}
+use Rattle.locality_tree.specs.declared.place_set.PlaceSet.{PlaceSet}
 use Rattle.locality_tree.specs.Trees.{RankedEntry, IsRanked}
-use Rattle.locality_tree.specs.Layouts.{HasNumber, number_of, unit_in}
-use Rattle.locality_tree.specs.PlaceSets.{in_set}
+use Rattle.locality_tree.specs.Layouts.{HasNumber, number_of, entry_in, sets_of}
+use Rattle.locality_tree.specs.PlaceSets.{is_marked}
 
--- the level of an entry's unit at two places: 0 where it stands at the one, else 1 where it stands at the other, and else 2
-abbrev pub level_in : List UnitPlaces → ℕ → ℕ → Entry → ℕ
-level_in units near rack e = cond (in_set (unit_in units (number_of e)).places near) 0 (cond (in_set (unit_in units (number_of e)).places rack) 1 2)
+-- whether the entry's unit stands at one of two places
+abbrev pub is_at_either : List PlaceSet → ℕ → ℕ → Entry → Bool
+is_at_either sets one other e = is_marked sets (number_of e) one || is_marked sets (number_of e) other
 
--- whether units may stand at a level
-abbrev pub has_level : Bool → Bool → ℕ → Bool
-has_level near rack l = cond (nat_eq l 0) near (cond (nat_eq l 1) rack true)
+abbrev pub nothing : Entry → Bool
+nothing e = false
 
--- the entries of a list that are kept, each with its level, and all of them
-abbrev pub kept_of : (Entry → Bool) → (Entry → ℕ) → List Item → List RankedEntry
-kept_of keeps levels [] = []
-kept_of keeps levels (i ∷ is) = cond (keeps i.1) ((i.1, levels i.1) ∷ kept_of keeps levels is) (kept_of keeps levels is)
+-- the entries of a list that are not skipped, at a level
+abbrev pub unskipped : (Entry → Bool) → ℕ → List Item → List RankedEntry
+unskipped skips level [] = []
+unskipped skips level (i ∷ is) = cond (skips i.1) (unskipped skips level is) ((i.1, level) ∷ unskipped skips level is)
 
-abbrev pub with_levels : (Entry → ℕ) → List Item → List RankedEntry
-with_levels levels [] = []
-with_levels levels (i ∷ is) = (i.1, levels i.1) ∷ with_levels levels is
+-- nothing is skipped at the head
+abbrev pub Stops : (Entry → Bool) → List Item → Type 0
+Stops skips [] = ⊤
+Stops skips (i ∷ is) = skips i.1 ≡ false
 
--- of a priority and a level; of a smaller priority, or a greater level of the same
-abbrev pub is_of : (Entry → ℕ) → ℕ → ℕ → Entry → Bool
-is_of levels priority level e = nat_eq e.priority priority && nat_eq (levels e) level
+-- a slot in a queue, and what stands there from it on
+pub record IsTail (at : Slot → Option Node) (q : Queue) (o : Option Slot) (tail : List Item) : Type 0 where
+  pub done : List Item
+  pub stands : Stands at q (done ++ tail)
+  pub by_priority : q.key_first ≡ true
+  pub here : o ≡ first_of tail None
+  pub numbers : (i : Item) → In i tail → HasNumber i.1
 
-abbrev pub is_later : (Entry → ℕ) → ℕ → ℕ → Entry → Bool
-is_later levels priority level e = nat_lt e.priority priority || (nat_eq e.priority priority && nat_lt level (levels e))
+pub record HasTail (at : Slot → Option Node) (q : Queue) (o : Option Slot) : Type 0 where
+  pub tail : List Item
+  pub is_tail : IsTail at q o tail
 
--- the pairs that are left of a band of one priority, of which a walk has passed some, and of what is behind it
-abbrev pub left_in : (Entry → ℕ) → ℕ → ℕ → List Item → List Item → List RankedEntry
-left_in levels priority level band tail = kept_of (is_of levels priority level) levels tail ++ kept_of (is_later levels priority level) levels (band ++ tail)
+-- how far a walk came from a tail on, with nothing passed but what is skipped
+pub record Passed (at : Slot → Option Node) (q : Queue) (skips : Entry → Bool) (tail : List Item) (o : Option Slot) : Type 0 where
+  pub left : List Item
+  pub is_tail : IsTail at q o left
+  pub same : (level : ℕ) → unskipped skips level tail ≡ unskipped skips level left
+
+-- the same, as far as to the first that is not skipped
+pub record SkipsTo (at : Slot → Option Node) (q : Queue) (skips : Entry → Bool) (tail : List Item) (o : Option Slot) : Type 0 where
+  pub passed : Passed at q skips tail o
+  pub stops : Stops skips passed.left
+
+-- the priority of the entry at a slot
+abbrev pub priority_in : (Slot → Option Node) → Option Slot → Option ℕ
+priority_in at o = option_map (λ (e : Entry). e.priority) (entry_in at o)
+
+abbrev pub at_most : Option ℕ → ℕ → Bool
+at_most None most = true
+at_most (Some p) most = not (nat_lt most p)
+
+-- the first priority is there, and none of the others is above it
+abbrev pub is_best : Option ℕ → Option ℕ → Option ℕ → Bool
+is_best None second third = false
+is_best (Some p) second third = at_most second p && at_most third p
 
 -- the pairs of a list, put into the order of ranks
 pub record IsRanking (pairs all : List RankedEntry) : Type 0 where
@@ -48,30 +73,24 @@ pub record IsRanking (pairs all : List RankedEntry) : Type 0 where
   pub sound : (p : RankedEntry) → In p pairs → In p all
   pub complete : (p : RankedEntry) → In p all → In p pairs
 
--- a list begins with an entry of this priority, or is empty
-abbrev pub Heads : ℕ → List Item → Type 0
-Heads priority [] = ⊤
-Heads priority (i ∷ is) = i.1.priority ≡ priority
-
-abbrev pub levels_of : Path → Entry → ℕ
-levels_of p = level_in p.units.now p.near_place p.rack_place
+-- the pairs of three queues: each unit at the first level where it is
+abbrev pub pairs_of : List PlaceSet → ℕ → ℕ → List Item → List Item → List Item → List RankedEntry
+pairs_of sets near_place rack_place near rack cluster =
+    unskipped nothing 0 near ++ (unskipped (is_at_either sets near_place near_place) 1 rack ++ unskipped (is_at_either sets near_place rack_place) 2 cluster)
 
 -- A path has these pairs left.
 pub record Leads (p : Path) (pairs : List RankedEntry) : Type 0 where
-  pub done : List Item
-  pub band : List Item
-  pub tail : List Item
-  pub stands : Stands (value_at p.pool.now) p.queue.now (done ++ (band ++ tail))
-  pub numbers : (i : Item) → In i (band ++ tail) → HasNumber i.1
-  pub start : p.start ≡ first_of (band ++ tail) None
-  pub here : p.at ≡ first_of tail None
-  pub heads : Heads p.priority (band ++ tail)
-  pub of_band : (i : Item) → In i band → i.1.priority ≡ p.priority
+  pub near : List Item
+  pub rack : List Item
+  pub cluster : List Item
+  pub at_near : IsTail (value_at p.pool.now) p.near.now p.at_near near
+  pub at_rack : IsTail (value_at p.pool.now) p.rack.now p.at_rack rack
+  pub at_cluster : IsTail (value_at p.pool.now) p.cluster.now p.at_cluster cluster
   pub near_inside : p.near_place < 384
   pub rack_inside : p.rack_place < 384
-  pub low : p.level ≤ 2
-  pub none : (l : ℕ) → has_level p.has_near p.has_rack l ≡ false → (i : Item) → In i (band ++ tail) → levels_of p i.1 ≢ l
-  pub ranking : IsRanking pairs (left_in (levels_of p) p.priority p.level band tail)
+  pub rack_stops : Stops (is_at_either (sets_of p.units.now) p.near_place p.near_place) rack
+  pub cluster_stops : Stops (is_at_either (sets_of p.units.now) p.near_place p.rack_place) cluster
+  pub ranking : IsRanking pairs (pairs_of (sets_of p.units.now) p.near_place p.rack_place near rack cluster)
 
 -- a path has some pairs left, be it none
 pub record IsWalkable (p : Path) : Type 0 where
@@ -82,26 +101,3 @@ pub record IsWalkable (p : Path) : Type 0 where
 abbrev pub Gives : List RankedEntry → Option RankedEntry → (List RankedEntry → Type 0) → Type 0
 Gives [] answer IsLeft = (answer ≡ None) × IsLeft []
 Gives (p ∷ rest) answer IsLeft = (answer ≡ Some p) × IsLeft rest
-
--- a walk is at this entry of its priority, or at none
-abbrev pub IsHere : Path → Option (Slot × Entry) → Type 0
-IsHere p None = (s : Slot) (e : Entry) → p.at ≡ Some s → entry_at (value_at p.pool.now) s ≡ Some e → e.priority ≢ p.priority
-IsHere p (Some h) = (p.at ≡ Some h.0) × (entry_at (value_at p.pool.now) h.0 ≡ Some h.1) × (h.1.priority ≡ p.priority)
-
--- a number that falls along the queue, and one that falls with each look
-abbrev pub left_of : Option Entry → ℕ
-left_of None = 0
-left_of (Some e) = 2 ^ 72 - rank e
-
-abbrev pub way_left : (Slot → Option Node) → Option Slot → ℕ
-way_left at None = 0
-way_left at (Some s) = left_of (entry_at at s)
-
-abbrev pub looks_left : Path → ℕ
-looks_left p = (3 * way_left (value_at p.pool.now) p.start + (2 - p.level)) * (2 ^ 72 + 1) + way_left (value_at p.pool.now) p.at
-
--- what a look tells of the pairs that were left
-abbrev pub Looks : Path → Path → List RankedEntry → Look → Type 0
-Looks old new pairs (LookGives e) = (rest : List RankedEntry) × (pairs ≡ (e, new.level) ∷ rest) × Leads new rest
-Looks old new pairs Passes = Leads new pairs × (looks_left new < looks_left old)
-Looks old new pairs Ends = (pairs ≡ []) × Leads new []

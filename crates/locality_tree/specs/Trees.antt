@@ -7,7 +7,7 @@ use Rattle.fuxi_terms.specs.Limits.{most_jobs, most_units, most_racks}
 use Rattle.fuxi_terms.proofs.Members.{In}
 use Rattle.wait_queue.specs.declared.node.Entry.{Entry}
 
--- A unit: the entry with which it waits, and at which places it stands.
+-- A unit: the entry with which it waits, and in which queues it stands, by their places.
 pub record UnitState : Type 0 where
   pub entry : Option Entry
   pub stands : List Bool
@@ -27,7 +27,7 @@ all_units = most_jobs * most_units
 abbrev pub no_unit : UnitState
 no_unit = record { entry = None; stands = [] }
 
--- the place of a machine is its number; then come those of the racks, whether there or not, and of the cluster
+-- the place of a machine's queue is its number; then come those of the racks, whether there or not, and of the cluster
 abbrev pub rack_place : List ℕ → ℕ → ℕ
 rack_place racks r = length racks + r
 
@@ -52,7 +52,7 @@ racks_of c = map (λ m. m.rack) c.machines
 abbrev pub started : ClusterRecord → TreeRecord
 started c = record { racks = racks_of c; units = replicate all_units no_unit }
 
--- a unit that stands at none of so many places
+-- a unit that stands in none of so many queues
 abbrev pub idle : ℕ → UnitState
 idle places = record { entry = None; stands = replicate places false }
 
@@ -64,13 +64,13 @@ with_idle units first places (suc n) = set (with_idle units first places n) (fir
 abbrev pub with_job : TreeRecord → JobRecord → TreeRecord
 with_job t j = record t { units = with_idle t.units (most_units * j.number) (place_count t.racks) (length j.units) }
 
--- the unit stands at this place or does not
+-- the unit stands in this queue or does not
 abbrev pub with_stand : TreeRecord → Entry → ℕ → Bool → TreeRecord
 with_stand t e place unmet =
     let u : UnitState = unit_at t e.app.0 e.unit.0 in
     with_unit t e (record u { stands = set u.stands place unmet })
 
--- the unit waits with this entry, and stands at the cluster's place; or it stands nowhere
+-- the unit waits with this entry, and stands in the cluster's queue too; or it stands in no queue
 abbrev pub refreshed : TreeRecord → Entry → Bool → TreeRecord
 refreshed t e true = with_unit t e (record { entry = Some e; stands = set (unit_at t e.app.0 e.unit.0).stands (cluster_place t.racks) true })
 refreshed t e false = with_unit t e (idle (place_count t.racks))

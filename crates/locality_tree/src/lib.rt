@@ -1,5 +1,6 @@
-//! The locality tree: the units that wait, in one queue, each with the machines and racks where it stands, and the walk
-//! over them in the order of their ranks on a machine. After a job is admitted no call takes memory.
+//! The locality tree: one queue for each machine, one for each rack and one for the cluster, and the walk
+//! over the units that wait, in the order of their ranks on a machine. After a job is admitted no call
+//! takes memory.
 #![tactic(auto)]
 
 mod layout;

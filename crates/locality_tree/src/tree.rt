@@ -16,8 +16,8 @@ use std::alloc::Global;
 use std::marker::Model;
 use wait_queue::{Entry, law};
 
-/// The units that wait, and the places where they stand. Contracts see each machine's rack, and of each unit the
-/// entry with which it waits and at which of the places it stands.
+/// The units that wait, and the queues that they stand in. Contracts see each machine's rack, and of each
+/// unit the entry with which it waits and in which of the queues it stands.
 pub struct Tree {
     /// By machine.
     racks: Vec<u32>,
@@ -67,19 +67,21 @@ impl Tree {
         })
     }
 
-    /// Admits a job that was not admitted, and reserves the nodes that its units can need, one for each unit. The tree
-    /// is as before after the refusal.
+    /// Admits a job that was not admitted, and reserves all the nodes that its units can need: for each unit
+    /// one for each machine, one for each of 64 racks and one for the cluster. The tree is as before after
+    /// the refusal.
     pub fn admit(&mut self, alloc: Global, job: &Job) -> Result<(), OutOfMemory>
         requires { (u : ℕ) → u < 8 → is_admitted self.old job.now.number u ≡ false }
         ensures ok { OnOk result (self.new ≡ with_job self.old job.now) }
         ensures err { OnErr result (self.new ≡ self.old) }
     {
+        law::standing_lists();
         let first = MOST_UNITS * job.app().0 as usize;
         self.layout.admit(alloc, first, job.units() as usize)
     }
 
-    /// The unit waits, with this entry, and stands at the cluster's place; or it waits no more and stands nowhere. It
-    /// takes no memory.
+    /// The unit waits, with this entry, and stands in the cluster's queue; or it stands in no queue. It takes
+    /// no memory.
     pub fn refresh(&mut self, entry: &Entry, waits: bool)
         requires admitted { IsTrue (is_admitted self.old entry.now.app.0 entry.now.unit.0) }
         requires entry { MayWait self.old entry.now }
@@ -87,14 +89,13 @@ impl Tree {
     {
         if waits {
             let place = self.racks.len() + MOST_RACKS as usize;
-            self.layout.begin(entry);
             self.layout.turn_to(place, entry, true);
             return;
         }
         self.layout.leave_all(entry);
     }
 
-    /// A unit that waits stands on the machine exactly where something of it is unmet there. It takes
+    /// A unit that waits stands in the machine's queue exactly where something of it is unmet there. It takes
     /// no memory.
     pub fn mark_machine(&mut self, entry: &Entry, machine: MachineNo, unmet: bool)
         requires waits { (unit_at self.old entry.now.app.0 entry.now.unit.0).entry ≡ Some entry.now }
@@ -105,7 +106,8 @@ impl Tree {
         self.layout.turn_to(machine.0 as usize, entry, unmet);
     }
 
-    /// A unit that waits stands in the rack exactly where something of it is unmet there. It takes no memory.
+    /// A unit that waits stands in the rack's queue exactly where something of it is unmet there. It takes no
+    /// memory.
     pub fn mark_rack(&mut self, entry: &Entry, rack: RackNo, unmet: bool)
         requires waits { (unit_at self.old entry.now.app.0 entry.now.unit.0).entry ≡ Some entry.now }
         requires rack { rack.0 < 64 }
@@ -116,7 +118,7 @@ impl Tree {
         self.layout.turn_to(place, entry, unmet);
     }
 
-    /// Whether a unit that waits stands on the machine. It takes no memory.
+    /// Whether a unit that waits stands in the machine's queue. It takes no memory.
     pub fn stands_on(&self, entry: &Entry, machine: MachineNo) -> bool
         requires waits { (unit_at self.now entry.now.app.0 entry.now.unit.0).entry ≡ Some entry.now }
         requires machine { machine.0 < length self.now.racks }
@@ -126,7 +128,7 @@ impl Tree {
         self.layout.stands_at(machine.0 as usize, entry)
     }
 
-    /// Whether a unit that waits stands in the rack. It takes no memory.
+    /// Whether a unit that waits stands in the rack's queue. It takes no memory.
     pub fn stands_within(&self, entry: &Entry, rack: RackNo) -> bool
         requires waits { (unit_at self.now entry.now.app.0 entry.now.unit.0).entry ≡ Some entry.now }
         requires rack { rack.0 < 64 }

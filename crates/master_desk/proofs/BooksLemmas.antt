@@ -6,7 +6,7 @@ use Rattle.std.proofs.lemmas.List.{get_or-set_same, get_or-set_other, get_or_pas
 use Rattle.std.proofs.lemmas.List.Sums.{sum_by-set}
 use Rattle.fuxi_terms.proofs.Booleans.{number_is}
 use Rattle.fuxi_terms.specs.Limits.{most_steps}
-use Rattle.written_roles.specs.MasterRoles.{MasterRole}
+use Rattle.spec_roles.specs.MasterRoles.{MasterRole}
 use Rattle.fuxi_master.specs.Cores.{MasterRecord, StandsFor}
 use Rattle.master_desk.specs.declared.call.Decoded.{Decoded}
 use Rattle.master_desk.specs.declared.entry.Entry.{Entry}

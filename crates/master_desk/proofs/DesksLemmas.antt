@@ -2,18 +2,18 @@
 use Rattle.std.proofs.Common.{◌≡◌, ℕ, true, false, List, [], ◌∷◌, map, get_or, drop, refl, sym, ◌∙◌, ap, subst}
 use Rattle.std.specs.Prelude.{◌++◌}
 use Rattle.std.proofs.lemmas.List.{map_push}
-use Rattle.written_roles.specs.MasterRoles.{MasterRole}
-use Rattle.core_side.specs.Parcels.{content_of}
+use Rattle.spec_roles.specs.MasterRoles.{MasterRole}
+use Rattle.peer_channel.specs.Parcels.{content_of}
 use Rattle.wire_frames.specs.Frames.{body_length as body_length_here}
 use Rattle.party_ledgers.specs.declared.packets.Body.{Body}
 use Rattle.party_ledgers.specs.declared.packets.Body.TheVariants as body
-use Rattle.written_net.specs.Ledgers.{body_length}
+use Rattle.spec_net.specs.Ledgers.{body_length}
 use Rattle.master_desk.specs.declared.call.Decoded.{Decoded}
 use Rattle.master_desk.specs.CallBytes.{Says}
 use Rattle.master_desk.specs.CallOrders.{AreCallsOf, IsCallOf, calls_of, times}
-use Rattle.written_net.specs.Net.{Id}
-use Rattle.written_net.specs.Sides.{turn_parcels}
-use Rattle.written_roles.specs.MasterSteps.{master_party, talks}
+use Rattle.spec_net.specs.Net.{Id}
+use Rattle.spec_net.specs.Sides.{turn_parcels}
+use Rattle.spec_roles.specs.MasterSteps.{master_party, talks}
 use Rattle.master_desk.specs.Desks.{Desk, IsDeskRun, Sending, desk_from, desk_takes, opened, sent_as, turn_sent}
 use Rattle.master_desk.proofs.CallOrdersLemmas.{calls_more}
 

@@ -4,8 +4,8 @@ use Rattle.std.specs.List.{sum}
 use Rattle.fuxi_terms.specs.Limits.{most_steps}
 use Rattle.party_ledgers.specs.declared.packets.Heard.{Heard}
 use Rattle.party_ledgers.specs.declared.packets.Packet.{Packet}
-use Rattle.core_side.specs.Parcels.{id_of, parcel_is}
-use Rattle.written_roles.specs.MasterRoles.{MasterRole, master_hears_alone, report_excess}
+use Rattle.peer_channel.specs.Parcels.{id_of, parcel_is}
+use Rattle.spec_roles.specs.MasterRoles.{MasterRole, master_hears_alone, report_excess}
 use Rattle.fuxi_master.specs.Cores.{MasterRecord, StandsFor}
 use Rattle.master_desk.specs.declared.call.Decoded.{Decoded}
 use Rattle.master_desk.specs.declared.entry.Entry.{Entry}

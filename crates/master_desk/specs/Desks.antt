@@ -1,11 +1,11 @@
 -- A desk, written down: sessions on one master, whose calls are taken one after another, and its journal. With no thread in it.
 use Rattle.std.specs.Prelude.{◌≡◌, ℕ, ◌+◌, true, false, List, [], ◌∷◌, ◌++◌, map}
-use Rattle.core_side.specs.Parcels.{id_of, kind_of, parcel_is, party_of}
-use Rattle.written_net.specs.Net.{Id, Packet}
-use Rattle.written_net.specs.Ledgers.{body_length}
-use Rattle.written_net.specs.Sides.{Parcel, turn_parcels}
-use Rattle.written_roles.specs.MasterSteps.{master_party, talks}
-use Rattle.written_roles.specs.MasterRoles.{MasterRole, MasterHeard, master_hears_alone, report_excess}
+use Rattle.peer_channel.specs.Parcels.{id_of, kind_of, parcel_is, party_of}
+use Rattle.spec_net.specs.Net.{Id, Packet}
+use Rattle.spec_net.specs.Ledgers.{body_length}
+use Rattle.spec_net.specs.Sides.{Parcel, turn_parcels}
+use Rattle.spec_roles.specs.MasterSteps.{master_party, talks}
+use Rattle.spec_roles.specs.MasterRoles.{MasterRole, MasterHeard, master_hears_alone, report_excess}
 use Rattle.master_desk.specs.declared.call.Decoded.{Decoded}
 use Rattle.master_desk.specs.declared.call.Decoded.TheVariants.{Whole, Bad as IsBad}
 use Rattle.master_desk.specs.declared.entry.Head.{Head}

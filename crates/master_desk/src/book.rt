@@ -1,7 +1,7 @@
 //! The book of a desk: its master, and the journal of the calls that were taken.
 
 ghost use Rattle.std.specs.Prelude.{◌≡◌, ◌+◌, ◌<◌, ◌≤◌, ◌^◌, ◌++◌, ◌∷◌, [], true, not, is_some, length, get_or, replicate, Some, None, IfOk, OnOk, OnErr};
-ghost use Rattle.written_roles.specs.MasterRoles.{MasterRole};
+ghost use Rattle.spec_roles.specs.MasterRoles.{MasterRole};
 ghost use Rattle.fuxi_master.specs.Cores.{StandsFor};
 ghost use Rattle.master_desk.specs.CallOrders.{IsCallOf, Fits, most_calls, most_sessions, times};
 ghost use Rattle.master_desk.specs.Books.{Grows, HasRoom, HasRun, IsEntered, SameDesk, order_in};

@@ -1,7 +1,7 @@
 //! Laws of the definitions, as contracts. What stands here does nothing.
 
 ghost use Rattle.std.specs.Prelude.{◌≡◌, ℕ, List};
-ghost use Rattle.written_roles.specs.MasterRoles.{MasterRole};
+ghost use Rattle.spec_roles.specs.MasterRoles.{MasterRole};
 ghost use Rattle.master_desk.specs.CallBytes.{Says};
 ghost use Rattle.master_desk.specs.Desks.{Desk, IsDeskRun};
 ghost use Rattle.master_desk.specs.declared.call.Decoded.{Decoded as AnyDecoded};

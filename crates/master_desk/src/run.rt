@@ -2,7 +2,7 @@
 
 ghost use Rattle.std.specs.Prelude.{◌≡◌, ◌-◌, ◌<◌, ◌≤◌, ◌^◌, ℕ, true, is_some, List, Option, IfOk, IfSome};
 ghost use Rattle.std.specs.Thread.{IsSend};
-ghost use Rattle.written_roles.specs.MasterRoles.{MasterRole};
+ghost use Rattle.spec_roles.specs.MasterRoles.{MasterRole};
 ghost use Rattle.master_desk.specs.contracts.book.Book.{the_row};
 ghost use Rattle.fuxi_master.specs.Cores.{StandsFor};
 ghost use Rattle.master_desk.specs.CallOrders.{IsCallOf, IsWhole, most_sessions};

@@ -1,2 +1,7 @@
 mod HeldWalk
 mod Loops
+mod Walks
+mod Spots
+mod MasterLoops
+mod Jobs
+mod LineOfKnownJobs

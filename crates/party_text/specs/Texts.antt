@@ -1,9 +1,9 @@
 -- The text of a party's state.
 use Rattle.std.specs.Prelude.{◌≡◌, ℕ, List, ◌++◌}
 use Rattle.std.specs.List.{flat_map}
-use Rattle.written_net.specs.Net.{Packet}
-use Rattle.written_net.specs.Ledgers.{Body}
-use Rattle.written_world.specs.Outputs.{Line}
+use Rattle.spec_net.specs.Net.{Packet}
+use Rattle.spec_net.specs.Ledgers.{Body}
+use Rattle.spec_world.specs.Outputs.{Line}
 use Rattle.schedule_text.specs.PrintedLines.{line_text}
 
 -- The text of these lines was appended, whatever the bytes of frames are, since no line is of a frame

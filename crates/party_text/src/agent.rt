@@ -2,10 +2,10 @@
 
 ghost use Rattle.std.specs.Prelude.{◌≡◌, ◌<◌, ℕ, [], ◌∷◌, length, map, Some, slice_get, OnOk};
 ghost use Rattle.fuxi_terms.specs.Keys.{RowKey};
-ghost use Rattle.written_roles.specs.Agents.{AgentRole};
+ghost use Rattle.spec_roles.specs.Agents.{AgentRole};
 ghost use Rattle.schedule_text.specs.Writing.{Begins};
 ghost use Rattle.agent_core.specs.AgentCores.{StandsFor};
-ghost use Rattle.written_join.specs.States.{row_line, agent_lines};
+ghost use Rattle.spec_refinement.specs.States.{row_line, agent_lines};
 ghost use Rattle.party_text.specs.Texts.{Shows};
 
 use crate::line::write_line;
@@ -49,7 +49,7 @@ fn write_rows(machine: MachineNo, table: &RowLedger, out: &mut Vec<u8>) -> Resul
 
 /// Appends the lines of the agent of a machine: its boot and its place, and its table. A refusal may leave some of them behind what was
 /// there.
-#[tactic(auto, using(written_join::proofs::ShowsLemmas::begins_then))]
+#[tactic(auto, using(spec_refinement::proofs::ShowsLemmas::begins_then))]
 pub fn write_agent(agent: &Agent, machine: MachineNo, out: &mut Vec<u8>) -> Result<(), OutOfMemory>
     requires number { machine.0 ≡ agent.now.machine }
     ensures ok { OnOk result ((r : AgentRole) → StandsFor agent.now r → Shows (agent_lines r) out.old.items out.new.items) }

@@ -3,10 +3,10 @@
 ghost use Rattle.std.specs.Prelude.{◌≡◌, ◌<◌, [], ◌∷◌, OnOk};
 ghost use Rattle.std.specs.List.{flat_map};
 ghost use Rattle.fuxi_terms.specs.Lists.{below};
-ghost use Rattle.written_roles.specs.Apps.{AppRole, held_by};
+ghost use Rattle.spec_roles.specs.Apps.{AppRole, held_by};
 ghost use Rattle.schedule_text.specs.Writing.{Begins};
 ghost use Rattle.app_master.specs.AppCores.{StandsFor};
-ghost use Rattle.written_join.specs.States.{hold_line, unit_lines, app_lines};
+ghost use Rattle.spec_refinement.specs.States.{hold_line, unit_lines, app_lines};
 ghost use Rattle.party_text.specs.Texts.{Shows};
 
 use crate::line::write_line;
@@ -42,7 +42,7 @@ fn write_hold(
 }
 
 // What is held of a unit, from one machine to the next on which there is some.
-#[tactic(auto, using(written_join::proofs::ShowsLemmas::begins_then))]
+#[tactic(auto, using(spec_refinement::proofs::ShowsLemmas::begins_then))]
 fn write_unit(
     app: &AppMaster,
     job: AppNo,
@@ -68,7 +68,7 @@ fn write_unit(
 }
 
 // What is held, unit by unit.
-#[tactic(auto, using(written_join::proofs::ShowsLemmas::begins_then))]
+#[tactic(auto, using(spec_refinement::proofs::ShowsLemmas::begins_then))]
 fn write_units(app: &AppMaster, job: AppNo, out: &mut Vec<u8>) -> Result<(), OutOfMemory>
     requires number { job.0 ≡ app.now.job }
     ensures ok { OnOk result ((r : AppRole) → StandsFor app.now r → Shows (flat_map (unit_lines r) (below r.units)) out.old.items out.new.items) }
@@ -85,7 +85,7 @@ fn write_units(app: &AppMaster, job: AppNo, out: &mut Vec<u8>) -> Result<(), Out
 
 /// Appends the lines of the application of a job: its boot and its place, and what it holds of each unit on each machine. A refusal may
 /// leave some of them behind what was there.
-#[tactic(auto, using(written_join::proofs::ShowsLemmas::begins_then))]
+#[tactic(auto, using(spec_refinement::proofs::ShowsLemmas::begins_then))]
 pub fn write_app(app: &AppMaster, job: AppNo, out: &mut Vec<u8>) -> Result<(), OutOfMemory>
     requires number { job.0 ≡ app.now.job }
     ensures ok { OnOk result ((r : AppRole) → StandsFor app.now r → Shows (app_lines r) out.old.items out.new.items) }

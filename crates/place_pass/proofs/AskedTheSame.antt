@@ -12,14 +12,14 @@ use Rattle.fuxi_terms.specs.Keys.{Pair}
 use Rattle.fuxi_terms.specs.TallyKeys.{near_key, rack_key}
 use Rattle.fuxi_terms.specs.Tables.{Table, held_on, held_in}
 use Rattle.fuxi_terms.proofs.Lists.{all_at}
-use Rattle.written_roles.specs.Placing.{has_pair}
+use Rattle.spec_roles.specs.Placing.{has_pair}
 use Rattle.locality_tree.specs.Trees.{TreeRecord}
 use Rattle.place_pass.specs.Best.{AreAdmitted}
 use Rattle.place_pass.specs.Cells.{Cell, no_cell, cell_at, asks_at, taken, taken_all, is_gone, any_gone, asks_more}
 use Rattle.place_pass.specs.PlacerTrees.{StandsAs}
 use Rattle.place_pass.proofs.CellsLemmas.{get_or-taken_all}
 use Rattle.place_pass.proofs.Places.{counted_at}
-use Rattle.place_pass.proofs.SightsLemmas.{place_of}
+use Rattle.place_pass.proofs.CandidatesLemmas.{place_of}
 use Rattle.place_pass.proofs.IdleKept.{any_none}
 
 stays : (n : ℕ) → is_gone n n ≡ false

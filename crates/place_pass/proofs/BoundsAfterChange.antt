@@ -15,8 +15,8 @@ use Rattle.fuxi_terms.proofs.CountsLemmas.{tied, count-set_count}
 use Rattle.fuxi_terms.proofs.KeyOrders.{spot_total, same_spot}
 use Rattle.fuxi_terms.proofs.Members.{each_place, each_from}
 use Rattle.fuxi_terms.proofs.Sums.{sum_set}
-use Rattle.written_roles.specs.Masters.{level_of}
-use Rattle.written_roles.specs.Placing.{Board, accepts_in, has_room_in, is_allowed_in}
+use Rattle.spec_roles.specs.Masters.{level_of}
+use Rattle.spec_roles.specs.Placing.{Board, accepts_in, has_room_in, is_allowed_in}
 use Rattle.place_pass.specs.Bounds.{MarkRecord, IsBounded, lowered, lowered_mark, reset_mark, no_groups, after_taking, is_nearer_in}
 use Rattle.place_pass.proofs.BoundsLemmas.{NoEarlier, accepts_less, bounded_later, bounded_apart, lowered_bounds, reset_bounds}
 use Rattle.place_pass.proofs.SearchCountsLemmas.{none_noted}

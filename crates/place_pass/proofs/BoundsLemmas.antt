@@ -9,8 +9,8 @@ use Rattle.std.proofs.lemmas.Bool.Decides.{nat_tests}
 use Rattle.fuxi_terms.specs.Keys.{Pair}
 use Rattle.fuxi_terms.proofs.Booleans.{both_true, and_true, or_left}
 use Rattle.fuxi_terms.specs.Tables.{Table}
-use Rattle.written_roles.specs.Masters.{level_of}
-use Rattle.written_roles.specs.Placing.{Board, accepts_in, has_room_in, is_allowed_in}
+use Rattle.spec_roles.specs.Masters.{level_of}
+use Rattle.spec_roles.specs.Placing.{Board, accepts_in, has_room_in, is_allowed_in}
 use Rattle.place_pass.specs.Bounds.{MarkRecord, zero_rank, rank_at, comes_before, is_bound, key_of, limited_mark, IsBounded, lowered}
 use Rattle.fuxi_terms.proofs.NumberOrders.{compared_less, compared_greater}
 

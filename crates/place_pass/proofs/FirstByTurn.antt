@@ -13,12 +13,12 @@ use Rattle.fuxi_terms.proofs.Alls.{all_append}
 use Rattle.fuxi_terms.proofs.Booleans.{both_true, and_true, or_right, not_true}
 use Rattle.fuxi_terms.proofs.Lists.{all_at}
 use Rattle.fuxi_terms.proofs.Members.{In, in_below, in_left, in_right}
-use Rattle.written_roles.specs.Masters.{level_of}
-use Rattle.written_roles.specs.Placing.{Board, Ranked, ranked_in, places_in, candidates_in, may_grow_in, accepts_in, has_room_in, placeable_in, first_of, first_in, has_pair}
+use Rattle.spec_roles.specs.Masters.{level_of}
+use Rattle.spec_roles.specs.Placing.{Board, Ranked, ranked_in, places_in, candidates_in, may_grow_in, accepts_in, has_room_in, placeable_in, first_of, first_in, has_pair}
 use Rattle.place_pass.specs.Bounds.{comes_before, Rises, IsRising, rank_on}
 use Rattle.place_pass.specs.Best.{spot_of}
-use Rattle.place_pass.specs.declared.search.Found.{Found}
-use Rattle.place_pass.specs.Sights.{rank_with, IsFound, IsLeast}
+use Rattle.place_pass.specs.declared.search.BestFound.{BestFound}
+use Rattle.place_pass.specs.Candidates.{rank_with, IsFound, IsLeast}
 use Rattle.place_pass.specs.WaitingLines.{same_pair}
 use Rattle.place_pass.proofs.FirstOfLine.{first_is}
 use Rattle.place_pass.proofs.WaitingLinesLemmas.{pair_self}
@@ -170,7 +170,7 @@ pub none_first : (b : Board) (es : Table) (f : Pair → ℕ) (line : List Pair) 
 none_first b es f line h = no_rank (candidates_in b es 0 line) (placed_all Never b es 0 line (λ k at m p s e lt t. record { never = (let g : false ≡ true = (h m lt).least p (has_at line k p e) t in absurd (let f : ⊥ = cc in f)) }))
 
 -- where one is found that no other comes before it is the first
-pub found_first : (b : Board) (es : Table) (f : Pair → ℕ) (line : List Pair) (x : Found) → Rises f line → IsFound b es f line x → ((m : ℕ) → m < length b.cluster.machines → IsLeast b es f line (Some (rank_with x)) m) → first_in b es line ≡ Some (spot_of x.pick)
+pub found_first : (b : Board) (es : Table) (f : Pair → ℕ) (line : List Pair) (x : BestFound) → Rises f line → IsFound b es f line x → ((m : ℕ) → m < length b.cluster.machines → IsLeast b es f line (Some (rank_with x)) m) → first_in b es line ≡ Some (spot_of x.pick)
 found_first b es f line x rises is h =
     let p : Pair = (x.pick.app.0, x.pick.unit.0) in
     first_by_turn b es f line is.place x.pick.machine.0 p rises is.at is.there is.placeable

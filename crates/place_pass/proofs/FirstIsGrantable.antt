@@ -18,8 +18,8 @@ use Rattle.fuxi_terms.proofs.Alls.{all_append}
 use Rattle.fuxi_terms.proofs.Booleans.{both_true, either, nat_itself, zero_either}
 use Rattle.fuxi_terms.proofs.Members.{each_place}
 use Rattle.fuxi_terms.proofs.Sums.{sum_set}
-use Rattle.written_roles.specs.Masters.{out_of}
-use Rattle.written_roles.specs.Placing.{Board, Ranked, ranked_in, places_in, candidates_in, may_grow_in, accepts_in, has_room_in, least, first_of, first_in}
+use Rattle.spec_roles.specs.Masters.{out_of}
+use Rattle.spec_roles.specs.Placing.{Board, Ranked, ranked_in, places_in, candidates_in, may_grow_in, accepts_in, has_room_in, least, first_of, first_in}
 use Rattle.grant_table.specs.GrantTables.{TableRecord, IsSound, as_known}
 use Rattle.grant_table.specs.declared.asking.Pick.{Pick}
 use Rattle.place_pass.specs.Cells.{Cell, cell_at, asks_in, job_at, AreWishes}

@@ -5,7 +5,7 @@ use Rattle.std.specs.Cmp.{IsTotalOrder, nat_cmp_total}
 use Rattle.std.specs.Cmp.Lexicographic.{slice_cmp, lists_total}
 use Rattle.std.specs.declared.cmp.Ordering.{Ordering}
 use Rattle.std.specs.declared.cmp.Ordering.TheVariants.{Less, Equal, Greater}
-use Rattle.written_roles.specs.Placing.{Ranked, least, first_of}
+use Rattle.spec_roles.specs.Placing.{Ranked, least, first_of}
 use Rattle.fuxi_terms.proofs.Members.{In}
 
 abbrev before : Ranked → Ranked → Bool

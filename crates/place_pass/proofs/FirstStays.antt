@@ -17,8 +17,8 @@ use Rattle.fuxi_terms.specs.TallyKeys.{want_key}
 use Rattle.fuxi_terms.proofs.Booleans.{both_true, and_true, zero_either}
 use Rattle.fuxi_terms.proofs.Members.{In}
 use Rattle.fuxi_terms.proofs.Sums.{sum_set}
-use Rattle.written_roles.specs.Masters.{level_of, out_of}
-use Rattle.written_roles.specs.Placing.{Board, Ranked, ranked_in, candidates_in, may_grow_in, is_allowed_in, accepts_in, has_room_in, placeable_in, least, first_of, first_in}
+use Rattle.spec_roles.specs.Masters.{level_of, out_of}
+use Rattle.spec_roles.specs.Placing.{Board, Ranked, ranked_in, candidates_in, may_grow_in, is_allowed_in, accepts_in, has_room_in, placeable_in, least, first_of, first_in}
 use Rattle.place_pass.specs.Bounds.{comes_before}
 use Rattle.place_pass.proofs.BoundsAfterChange.{granted_later}
 use Rattle.place_pass.proofs.FirstByTurn.{all_in, by_place, in_candidates, less_first, less_rest, placed_all}

@@ -1,21 +1,20 @@
 -- The flags of a line say who waits: at the start, and where a pair joins or leaves.
-use Rattle.std.proofs.Common.{◌≡◌, ℕ, zero, suc, ◌+◌, ◌*◌, ◌<◌, Bool, true, false, cond, not, nat_eq, List, [], ◌∷◌, ◌++◌, length, filter, get_or, set, take, drop, refl, sym, ◌∙◌, ap, subst, arith, inl, inr, length-set, Some, slice_get}
+use Rattle.std.proofs.Common.{◌≡◌, ℕ, zero, suc, ◌+◌, ◌*◌, ◌<◌, Bool, true, false, cond, not, nat_eq, List, [], ◌∷◌, ◌++◌, length, filter, get_or, set, take, drop, refl, sym, ◌∙◌, ap, subst, arith, length-set, Some, slice_get}
 use Rattle.std.specs.Prelude.{◌&&◌, ◌||◌, replicate}
 use Rattle.std.specs.List.{AllByRecursion, IsDistinct}
 use Rattle.std.proofs.lemmas.List.{get_or_default, length-replicate}
 use Rattle.fuxi_terms.specs.Limits.{most_jobs, most_units}
-use Rattle.fuxi_terms.proofs.Alls.{all_append, all_filter}
 use Rattle.fuxi_terms.proofs.Booleans.{both_true, number_is, same_tests, and_true, nat_itself, or_right, both_false, or_none}
-use Rattle.written_roles.specs.Placing.{has_pair}
-use Rattle.place_pass.specs.WaitingLines.{same_pair, IsLine}
-use Rattle.place_pass.proofs.WaitingLinesLemmas.{any_append, either_one, has_filter, pair_is, pair_self, pair_turned}
+use Rattle.spec_roles.specs.Placing.{has_pair}
+use Rattle.place_pass.specs.WaitingLines.{same_pair, AreFlags}
+use Rattle.place_pass.proofs.WaitingLinesLemmas.{any_append, has_filter, pair_self, pair_turned}
 use Rattle.fuxi_terms.proofs.IndexedLists.{one_set, repeated_at}
 use Rattle.fuxi_terms.specs.Keys.{Pair}
 
 -- no pair waits of a unit that there may not be
-pub outside : (pairs : List Pair) (waits : List Bool) → IsLine pairs waits → (a u : ℕ) → ((a < most_jobs) × (u < most_units) → ⊥) → false ≡ has_pair (a, u) pairs
-outside pairs waits h a u out = elim (has_pair (a, u) pairs) as (λ b. has_pair (a, u) pairs ≡ b → false ≡ b) [
-  | true ↦ λ e. absurd (out (h.there a u e))
+pub outside : (pairs : List Pair) → ((a u : ℕ) → has_pair (a, u) pairs ≡ true → (a < most_jobs) × (u < most_units)) → (a u : ℕ) → ((a < most_jobs) × (u < most_units) → ⊥) → false ≡ has_pair (a, u) pairs
+outside pairs there a u out = elim (has_pair (a, u) pairs) as (λ b. has_pair (a, u) pairs ≡ b → false ≡ b) [
+  | true ↦ λ e. absurd (out (there a u e))
   | false ↦ λ _. refl
 ] refl
 
@@ -38,40 +37,29 @@ flag_set : (waits : List Bool) (a u b v : ℕ) (f : Bool) → u < 8 → v < 8 �
 flag_set waits a u b v f lu lv lt = one_set waits (a * 8 + u) (b * 8 + v) f false lt ∙ ap (λ t. cond t f (get_or waits (b * 8 + v) false)) (same_slot a u b v lu lv)
 
 -- what is read at the place of a unit that may be there
-pub flag_is : (pairs : List Pair) (waits : List Bool) → IsLine pairs waits → (a u : ℕ) → a < most_jobs → u < most_units → (i : ℕ) → i ≡ a * 8 + u → (flag : Bool) → flag ≡ get_or waits i flag → flag ≡ has_pair (a, u) pairs
+pub flag_is : (pairs : List Pair) (waits : List Bool) → AreFlags pairs waits → (a u : ℕ) → a < most_jobs → u < most_units → (i : ℕ) → i ≡ a * 8 + u → (flag : Bool) → flag ≡ get_or waits i flag → flag ≡ has_pair (a, u) pairs
 flag_is pairs waits h a u la lu i e flag is =
     let places = h.places in
     is ∙ ap (λ k. get_or waits k flag) e ∙ get_or_default waits (a * 8 + u) flag false (omega (arith, places, la, lu)) ∙ h.waiting a u la lu
 
 -- ---- nobody waits
-none_twice : IsDistinct same_pair []
-unfolding IsDistinct
-none_twice = tt
-
-pub line_empty : (pairs : List Pair) (waits : List Bool) → pairs ≡ [] → waits ≡ replicate (most_jobs * most_units) false → IsLine pairs waits
-line_empty pairs waits none e = record {
-  distinct = subst (IsDistinct same_pair) (sym none) none_twice;
+pub flags_none : (pairs : List Pair) (waits : List Bool) → pairs ≡ [] → waits ≡ replicate (most_jobs * most_units) false → AreFlags pairs waits
+flags_none pairs waits none e = record {
   places = ap length e ∙ length-replicate {A = Bool} (most_jobs * most_units) false;
-  there = λ a u has. let f : false ≡ true = sym (ap (has_pair (a, u)) none) ∙ has in cc;
   waiting = λ a u la lu. ap (λ (xs : List Bool). get_or xs (a * 8 + u) false) e ∙ repeated_at false (most_jobs * most_units) (a * 8 + u) ∙ sym (ap (has_pair (a, u)) none);
 }
 
--- ---- one joins
-distinct_last : (xs : List Pair) (p : Pair) → IsDistinct same_pair xs → has_pair p xs ≡ false → IsDistinct same_pair (xs ++ p ∷ [])
-unfolding IsDistinct
-distinct_last [] p h e = (tt, tt)
-distinct_last (x ∷ xs) p h e =
-    let n = both_false (same_pair p x) (has_pair p xs) e in
-    (all_append (λ y. same_pair x y ≡ false) xs (p ∷ []) h.0 (pair_turned x p ∙ n.0, tt), distinct_last xs p h.1 n.1)
+-- who has the same pairs has the same flags
+pub flags_same : (pairs others : List Pair) (waits : List Bool) → ((p : Pair) → has_pair p others ≡ has_pair p pairs) → AreFlags pairs waits → AreFlags others waits
+flags_same pairs others waits same h = record {
+  places = h.places;
+  waiting = λ a u la lu. h.waiting a u la lu ∙ sym (same (a, u));
+}
 
-pub line_joined : (pairs : List Pair) (waits : List Bool) (a u : ℕ) → IsLine pairs waits → a < most_jobs → u < most_units → has_pair (a, u) pairs ≡ false → IsLine (pairs ++ (a, u) ∷ []) (set waits (a * 8 + u) true)
-line_joined pairs waits a u h la lu new = record {
-  distinct = distinct_last pairs (a, u) h.distinct new;
+-- ---- one joins
+pub flags_joined : (pairs : List Pair) (waits : List Bool) (a u : ℕ) → AreFlags pairs waits → a < most_jobs → u < most_units → AreFlags (pairs ++ (a, u) ∷ []) (set waits (a * 8 + u) true)
+flags_joined pairs waits a u h la lu = record {
   places = length-set waits (a * 8 + u) true ∙ h.places;
-  there = λ b v has. elim (either_one (has_pair (b, v) pairs) (same_pair (b, v) (a, u) || false) (sym (any_append (same_pair (b, v)) pairs ((a, u) ∷ [])) ∙ has)) [
-    | inl old ↦ h.there b v old
-    | inr one ↦ let is = pair_is (b, v) (a, u) (or_false _ one) in (let x = ap (λ (p : Pair). p.0) is in omega (arith, x, la), let y = ap (λ (p : Pair). p.1) is in omega (arith, y, lu))
-  ];
   waiting = λ b v lb lv.
       flag_set waits a u b v true lu lv (let places = h.places in omega (arith, places, la, lu))
       ∙ ap (λ x. cond (same_pair (a, u) (b, v)) true x) (h.waiting b v lb lv)
@@ -80,10 +68,6 @@ line_joined pairs waits a u h la lu new = record {
       ∙ sym (any_append (same_pair (b, v)) pairs ((a, u) ∷ []));
 }
   where
-    or_false : (t : Bool) → (t || false) ≡ true → t ≡ true
-    or_false true e = refl
-    or_false false e = e
-
     raised : (t x : Bool) → cond t true x ≡ (x || (t || false))
     raised true true = refl
     raised true false = refl
@@ -91,7 +75,7 @@ line_joined pairs waits a u h la lu new = record {
     raised false false = refl
 
 -- ---- one leaves
-none_left : (xs : List Pair) (p : Pair) → AllByRecursion (λ y. same_pair p y ≡ false) xs → has_pair p xs ≡ false
+pub none_left : (xs : List Pair) (p : Pair) → AllByRecursion (λ y. same_pair p y ≡ false) xs → has_pair p xs ≡ false
 none_left [] p h = refl
 none_left (x ∷ xs) p h = or_none (same_pair p x) (has_pair p xs) h.0 (none_left xs p h.1)
 
@@ -120,19 +104,9 @@ others_at (x ∷ xs) (suc i) p e h =
     one_at (y ∷ ys) zero h e = let same : y ≡ p = cc in subst (λ (z : Pair). same_pair x z ≡ false) same h.0
     one_at (y ∷ ys) (suc i) h e = one_at ys i h.1 e
 
-distinct_filter : (q : Pair → Bool) (xs : List Pair) → IsDistinct same_pair xs → IsDistinct same_pair (filter q xs)
-unfolding IsDistinct
-distinct_filter q [] h = tt
-distinct_filter q (x ∷ xs) h = elim (q x) as (λ b. IsDistinct same_pair (cond b (x ∷ filter q xs) (filter q xs))) [
-  | true ↦ (all_filter (λ y. same_pair x y ≡ false) q xs h.0, distinct_filter q xs h.1)
-  | false ↦ distinct_filter q xs h.1
-]
-
-pub line_left : (pairs left : List Pair) (waits : List Bool) (a u : ℕ) → IsLine pairs waits → a < most_jobs → u < most_units → left ≡ filter (λ q. not (same_pair q (a, u))) pairs → IsLine left (set waits (a * 8 + u) false)
-line_left pairs left waits a u h la lu is = subst (λ (l : List Pair). IsLine l (set waits (a * 8 + u) false)) (sym is) (record {
-  distinct = distinct_filter (λ q. not (same_pair q (a, u))) pairs h.distinct;
+pub flags_left : (pairs left : List Pair) (waits : List Bool) (a u : ℕ) → AreFlags pairs waits → a < most_jobs → u < most_units → left ≡ filter (λ q. not (same_pair q (a, u))) pairs → AreFlags left (set waits (a * 8 + u) false)
+flags_left pairs left waits a u h la lu is = subst (λ (l : List Pair). AreFlags l (set waits (a * 8 + u) false)) (sym is) (record {
   places = length-set waits (a * 8 + u) false ∙ h.places;
-  there = λ b v has. h.there b v (both_true (has_pair (b, v) pairs) _ (sym (has_filter (λ q. not (same_pair q (a, u))) (b, v) pairs) ∙ has)).0;
   waiting = λ b v lb lv.
       flag_set waits a u b v false lu lv (let places = h.places in omega (arith, places, la, lu))
       ∙ ap (λ x. cond (same_pair (a, u) (b, v)) false x) (h.waiting b v lb lv)

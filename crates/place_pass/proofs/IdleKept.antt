@@ -20,8 +20,8 @@ use Rattle.fuxi_terms.specs.declared.Key.{Key}
 use Rattle.fuxi_terms.proofs.Booleans.{and_true, both_true, both_false, number_is, or_false, or_none}
 use Rattle.fuxi_terms.proofs.Lookups.{none_is}
 use Rattle.fuxi_terms.proofs.Members.{both_empty, mapped_empty, none_passes, in_below, each_place, each_from, sum_le}
-use Rattle.written_roles.specs.Masters.{out_of}
-use Rattle.written_roles.specs.Placing.{Board, Ranked, ranked_in, places_in, candidates_in, may_grow_in, accepts_in, has_room_in, is_allowed_in, placeable_in, first_of, first_in, has_pair}
+use Rattle.spec_roles.specs.Masters.{out_of}
+use Rattle.spec_roles.specs.Placing.{Board, Ranked, ranked_in, places_in, candidates_in, may_grow_in, accepts_in, has_room_in, is_allowed_in, placeable_in, first_of, first_in, has_pair}
 use Rattle.grant_table.specs.GrantTables.{TableRecord, as_known, with_admitted}
 use Rattle.place_pass.specs.Best.{AreAdmitted}
 use Rattle.place_pass.specs.Cells.{Cell, no_cell, cell_at, asks_at, asks_in, job_at, taken, taken_all, is_gone, any_gone, asks_more, any_more, Lifts, AvoidsStill, AreWishes}
@@ -29,7 +29,7 @@ use Rattle.place_pass.specs.Bounds.{MarkRecord, mark_at, turn_at, key_of, limite
 use Rattle.place_pass.specs.SearchCounts.{IsLifted}
 use Rattle.place_pass.specs.Placers.{AreLevel, AsksNoMore, IsIdle, IsClear, IsKept, IsQuiet, IsStill, KeptRecord, board_over, is_open_to}
 use Rattle.place_pass.proofs.BoundsLemmas.{NoEarlier, accepts_less, bounded_later, limited_few, limited_key, limited_less}
-use Rattle.place_pass.proofs.SightsLemmas.{place_of}
+use Rattle.place_pass.proofs.CandidatesLemmas.{place_of}
 use Rattle.place_pass.proofs.BoundsAfterChange.{levels_le}
 use Rattle.fuxi_terms.proofs.Lists.{all_at}
 use Rattle.place_pass.proofs.CellsLemmas.{length-taken_all, get_or-taken_all}

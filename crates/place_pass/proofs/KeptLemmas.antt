@@ -15,19 +15,19 @@ use Rattle.fuxi_terms.specs.Tables.{spot, held, held_on, Table}
 use Rattle.fuxi_terms.proofs.Alls.{all_append, all_filter, all_more}
 use Rattle.fuxi_terms.proofs.Booleans.{both_true, and_true, or_right, number_is, nat_itself, zero_either}
 use Rattle.fuxi_terms.proofs.Sums.{sum_set}
-use Rattle.written_roles.specs.Placing.{Board, has_pair}
+use Rattle.spec_roles.specs.Placing.{Board, has_pair}
 use Rattle.grant_table.specs.GrantTables.{TableRecord, as_known}
-use Rattle.place_pass.specs.Bounds.{MarkRecord, mark_at, turn_at, IsRising, Rises, Numbered, IsBounded, after_taking, is_nearer_in, key_of, no_groups, reset_mark, lowered_mark, AreBoundedLater}
+use Rattle.place_pass.specs.Bounds.{MarkRecord, mark_at, turn_at, Rises, Numbered, IsBounded, after_taking, is_nearer_in, key_of, no_groups, reset_mark, lowered_mark, AreBoundedLater}
 use Rattle.place_pass.specs.Cells.{Cell, AvoidsStill}
 use Rattle.place_pass.specs.WaitingLines.{same_pair}
 use Rattle.place_pass.specs.Placers.{KeptRecord, IsKept, IsSetFrom, board_over, is_open_to}
-use Rattle.place_pass.specs.Sights.{IsAsked, IsForgotten}
+use Rattle.place_pass.specs.Candidates.{IsAsked, IsForgotten}
 use Rattle.place_pass.proofs.BoundsLemmas.{NoEarlier, accepts_less, allowed_bounds, bounded_later, lowered_later, reset_bounds}
 use Rattle.place_pass.proofs.WaitingLinesLemmas.{pair_self, any_append, either_one, has_filter}
 use Rattle.place_pass.proofs.FirstByTurn.{rising, rising_all}
 use Rattle.place_pass.proofs.BoundsAfterChange.{granted_later, taken_bounds, taken_later}
 use Rattle.place_pass.proofs.SearchCountsLemmas.{none_noted}
-use Rattle.place_pass.proofs.SightsLemmas.{bounded_wider}
+use Rattle.place_pass.proofs.CandidatesLemmas.{bounded_wider}
 use Rattle.fuxi_terms.proofs.IndexedLists.{one_set}
 
 -- ---- turns along a line
@@ -37,9 +37,6 @@ rises_filter f q (x ∷ xs) h = elim (q x) as (λ b. Rises f (cond b (x ∷ filt
   | true ↦ (all_filter (λ (y : Pair). f x < f y) q xs h.0, rises_filter f q xs h.1)
   | false ↦ rises_filter f q xs h.1
 ]
-
-pub rising_filter : (f : Pair → ℕ) (q : Pair → Bool) (xs : List Pair) → IsRising f xs → IsRising f (filter q xs)
-rising_filter f q xs h = rising f (filter q xs) (rises_filter f q xs (rising_all f xs h))
 
 has_later : (p x : Pair) (xs : List Pair) → has_pair p xs ≡ true → has_pair p (x ∷ xs) ≡ true
 has_later p x xs h = or_right (same_pair p x) (has_pair p xs) h

@@ -12,7 +12,9 @@ mod BoundsLemmas
 mod BoundsAfterChange
 mod NumberedLemmas
 mod FlagsTellWhoWaits
-mod SightsLemmas
+mod FirstKeysWait
+mod KeptInOrder
+mod CandidatesLemmas
 mod PackedRanksLemmas
 mod NotedMarksLemmas
 mod SearchCountsLemmas

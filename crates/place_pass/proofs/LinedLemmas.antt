@@ -8,7 +8,7 @@ use Rattle.fuxi_terms.specs.Keys.{Pair}
 use Rattle.fuxi_terms.proofs.Alls.{all_filter}
 use Rattle.fuxi_terms.proofs.Booleans.{both_true, or_right}
 use Rattle.fuxi_terms.proofs.Lists.{all_at}
-use Rattle.written_roles.specs.Placing.{has_pair}
+use Rattle.spec_roles.specs.Placing.{has_pair}
 use Rattle.grant_table.specs.GrantTables.{TableRecord}
 use Rattle.locality_tree.specs.Trees.{TreeRecord, is_admitted}
 use Rattle.place_pass.specs.Best.{AreAdmitted}
@@ -20,7 +20,7 @@ use Rattle.place_pass.proofs.CellsLemmas.{placed}
 use Rattle.place_pass.proofs.FirstByTurn.{has_at}
 use Rattle.place_pass.proofs.KeptLemmas.{kept_lined, rises_filter}
 use Rattle.place_pass.proofs.WaitingLinesLemmas.{any_append, has_filter}
-use Rattle.place_pass.proofs.SightsLemmas.{place_of}
+use Rattle.place_pass.proofs.CandidatesLemmas.{place_of}
 use Rattle.place_pass.specs.WaitingLines.{same_pair}
 use Rattle.place_pass.proofs.NumberedLemmas.{numbered_end, has_end}
 use Rattle.place_pass.proofs.PlacerTreesLemmas.{admitted_in}

@@ -9,7 +9,7 @@ use Rattle.fuxi_terms.specs.TallyKeys.{avoid_key}
 use Rattle.place_pass.specs.Bounds.{MarkRecord, reset_mark, lowered_mark}
 use Rattle.place_pass.specs.Cells.{Cell, Lifts, no_cell}
 use Rattle.place_pass.specs.Placers.{is_named}
-use Rattle.place_pass.specs.Sights.{IsAsked}
+use Rattle.place_pass.specs.Candidates.{IsAsked}
 use Rattle.place_pass.specs.DemandScopes.{AsksSameBut}
 use Rattle.place_pass.proofs.DemandScopesLemmas.{key_is, named_more}
 use Rattle.place_pass.proofs.WaitingLinesLemmas.{either_one}

@@ -13,7 +13,7 @@ use Rattle.place_pass.specs.NotedMarks.{AreNoted, AreClearUnless}
 use Rattle.place_pass.specs.PackedRanks.{never_rank, renewed_number, IsSmall, IsAbove}
 use Rattle.place_pass.proofs.PackedRanksLemmas.{first_key, least_above, least_some}
 use Rattle.place_pass.proofs.SearchCountsLemmas.{none_noted, none_any}
-use Rattle.place_pass.proofs.SightsLemmas.{mark_read, marks_set}
+use Rattle.place_pass.proofs.CandidatesLemmas.{mark_read, marks_set}
 
 -- a mark without a bound stays as it is where what is placeable may come earlier
 pub lowered_none : (k : MarkRecord) → key_of k 0 ≡ None → lowered_mark k ≡ k

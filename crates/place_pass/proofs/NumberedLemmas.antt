@@ -9,8 +9,8 @@ use Rattle.fuxi_terms.specs.Numbers.{has_number}
 use Rattle.fuxi_terms.specs.declared.Key.{Key}
 use Rattle.fuxi_terms.proofs.Booleans.{both_true, number_is}
 use Rattle.fuxi_terms.proofs.Lists.{all_at}
-use Rattle.written_roles.specs.Placing.{has_pair, waiting_in}
-use Rattle.written_roles.specs.Masters.{out_of}
+use Rattle.spec_roles.specs.Placing.{has_pair, waiting_in}
+use Rattle.spec_roles.specs.Masters.{out_of}
 use Rattle.place_pass.specs.Best.{AreAdmitted}
 use Rattle.place_pass.specs.Bounds.{Numbered}
 use Rattle.place_pass.specs.Cells.{Cell}

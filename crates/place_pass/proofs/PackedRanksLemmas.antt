@@ -6,10 +6,10 @@ use Rattle.place_pass.specs.declared.marks.Rank.{Rank}
 use Rattle.place_pass.specs.Bounds.{MarkRecord, rank_of, key_of, zero_rank, comes_before}
 use Rattle.place_pass.specs.PackedRanks.{packed, no_rank, IsSmall, IsAbove}
 use Rattle.fuxi_terms.proofs.Lookups.{none_is}
-use Rattle.place_pass.specs.declared.search.Found.{Found}
+use Rattle.place_pass.specs.declared.search.BestFound.{BestFound}
 use Rattle.place_pass.specs.declared.search.Least.{Least}
-use Rattle.place_pass.specs.Sights.{IsBehind, limit_in, number_in, is_first}
-use Rattle.place_pass.proofs.SightsLemmas.{first_decides}
+use Rattle.place_pass.specs.Candidates.{IsBehind, limit_in, number_in, is_first}
+use Rattle.place_pass.proofs.CandidatesLemmas.{first_decides}
 
 abbrev pub first_key : Rank
 first_key = record { late = 0; level = 0; turn = 0 }
@@ -100,7 +100,7 @@ not_before r s m n small few le = elim (comes_before (rank_of r ++ m ∷ []) (ra
 ] refl
 
 -- ---- the best, and the least bound
-pub not_first : (best : Option Found) (k : MarkRecord) (turns m : ℕ) → m ≤ 256 → (h : IsAbove k turns m (limit_in best)) → is_first best (rank_of h.key) m ≡ false
+pub not_first : (best : Option BestFound) (k : MarkRecord) (turns m : ℕ) → m ≤ 256 → (h : IsAbove k turns m (limit_in best)) → is_first best (rank_of h.key) m ≡ false
 not_first None k turns m few h = absurd (never_above k turns m few h)
 not_first (Some x) k turns m few h = not_before h.key x.rank m x.pick.machine.0 h.small few h.above
 

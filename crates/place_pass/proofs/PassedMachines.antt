@@ -9,20 +9,20 @@ use Rattle.place_pass.specs.Bounds.{MarkRecord, rank_of, mark_at, key_of, zero_r
 use Rattle.place_pass.specs.PackedRanks.{packed, no_rank, IsSmall, IsAbove}
 use Rattle.place_pass.specs.SearchCounts.{is_unsettled_by}
 use Rattle.place_pass.specs.Scenes.{board_in, CanSearch, IsMarked, AreMarked, IsLeastOn, IsSettledBy, IsEarliest}
-use Rattle.place_pass.specs.Sights.{IsBehind, AreBehind, ArePassed, IsRaised, limit_in, found_rank, turn_in}
+use Rattle.place_pass.specs.Candidates.{IsBehind, AreBehind, ArePassed, IsRaised, limit_in, found_rank, turn_in}
 use Rattle.place_pass.specs.declared.marks.Rank.{Rank}
-use Rattle.place_pass.specs.declared.search.Found.{Found}
+use Rattle.place_pass.specs.declared.search.BestFound.{BestFound}
 use Rattle.place_pass.specs.declared.search.Least.{Least}
-use Rattle.place_pass.specs.declared.search.Scene.{Scene}
+use Rattle.place_pass.specs.declared.search.SearchInput.{SearchInput}
 use Rattle.place_pass.proofs.PackedRanksLemmas.{not_first, never_above, none_above, above_less}
 use Rattle.place_pass.proofs.ScenesLemmas.{key_seen}
-use Rattle.place_pass.proofs.SightsLemmas.{bounded_by, least_passed, least_settled, settled_key}
+use Rattle.place_pass.proofs.CandidatesLemmas.{bounded_by, least_passed, least_settled, settled_key}
 
-abbrev pub is_other : Scene → ℕ → List MarkRecord → ℕ → Bool
+abbrev pub is_other : SearchInput → ℕ → List MarkRecord → ℕ → Bool
 is_other s start marks m = not (nat_eq m start) && is_unsettled_by s.wishes.now.opened (mark_at marks m) s.turns m
 
 -- ---- a machine whose bound has a number that is not below that of the best
-module _ (s : Scene) (marks : List MarkRecord) (best : Option Found) (m : ℕ) (are : AreMarked s marks) (few : m ≤ 256)
+module _ (s : SearchInput) (marks : List MarkRecord) (best : Option BestFound) (m : ℕ) (are : AreMarked s marks) (few : m ≤ 256)
     (above : is_unsettled_by s.wishes.now.opened (mark_at marks m) s.turns m ≡ true → IsAbove (mark_at marks m) s.turns m (limit_in best)) where
   least_by_number : CanSearch s → IsLeastOn s best m
   least_by_number ready = elim (is_unsettled_by s.wishes.now.opened (mark_at marks m) s.turns m) as (λ b. is_unsettled_by s.wishes.now.opened (mark_at marks m) s.turns m ≡ b → IsLeastOn s best m) [
@@ -81,7 +81,7 @@ raised_above earliest limit turns from m before after le small later h some = ra
     (λ e above. subst (λ (k : MarkRecord). IsAbove k turns m limit) (sym e) (above (ap (λ (k : MarkRecord). is_some (key_of k turns)) (sym e) ∙ some)))
 
 -- there is a best then
-pub later_some : (earliest : Option Rank) (best : Option Found) (from : ℕ) → from ≤ 256 → IfSome earliest (λ x. IsSmall x) → IsSomeAnd earliest (λ x. limit_in best ≤ packed x from) → best ≡ None → ⊥
+pub later_some : (earliest : Option Rank) (best : Option BestFound) (from : ℕ) → from ≤ 256 → IfSome earliest (λ x. IsSmall x) → IsSomeAnd earliest (λ x. limit_in best ≤ packed x from) → best ≡ None → ⊥
 later_some earliest best from few small later none =
     let k : MarkRecord = record { bound = None; until = 0; groups = [] } in
     never_above (bounded_mark (option_map rank_of earliest) 0 k) 0 from few
@@ -94,7 +94,7 @@ passed_one start m P first other = elim (nat_eq m start) as (λ b. nat_eq m star
   | false ↦ other
 ] refl
 
-module _ (s : Scene) (start from to : ℕ) (marks : List MarkRecord) (best : Option Found) (are : AreMarked s marks) (few : to ≤ 256) (passed : ArePassed marks s.turns start from to best) where
+module _ (s : SearchInput) (start from to : ℕ) (marks : List MarkRecord) (best : Option BestFound) (are : AreMarked s marks) (few : to ≤ 256) (passed : ArePassed marks s.turns start from to best) where
   above_at : (m : ℕ) → from ≤ m → m < to → nat_eq m start ≡ false → is_unsettled_by s.wishes.now.opened (mark_at marks m) s.turns m ≡ true → IsAbove (mark_at marks m) s.turns m (limit_in best)
   above_at m ge lt other u = passed m ge lt other (both_true (get_or s.wishes.now.opened m false) (is_some (key_of (mark_at marks m) s.turns)) u).1
 
@@ -114,12 +114,12 @@ module _ (s : Scene) (start from to : ℕ) (marks : List MarkRecord) (best : Opt
 some_is : (x y : Least) → Some x ≡ Some y → x ≡ y
 some_is x y e = cc
 
-limit_less : (best : Option Found) (number : ℕ) → IsSomeAnd best (λ x. packed x.rank x.pick.machine.0 ≤ number) → limit_in best ≤ number
+limit_less : (best : Option BestFound) (number : ℕ) → IsSomeAnd best (λ x. packed x.rank x.pick.machine.0 ≤ number) → limit_in best ≤ number
 limit_less None number h = absurd h
 limit_less (Some x) number h = h
 
 -- where what was found has a number that is not above the least, no machine comes before it
-pub decided : (s : Scene) (marks : List MarkRecord) (least : Least) (best : Option Found) (m : ℕ) → CanSearch s → AreMarked s marks → m ≤ 256 → IsSomeAnd best (λ x. packed x.rank x.pick.machine.0 ≤ least.key)
+pub decided : (s : SearchInput) (marks : List MarkRecord) (least : Least) (best : Option BestFound) (m : ℕ) → CanSearch s → AreMarked s marks → m ≤ 256 → IsSomeAnd best (λ x. packed x.rank x.pick.machine.0 ≤ least.key)
     → (is_unsettled_by s.wishes.now.opened (mark_at marks m) s.turns m ≡ true → IsBehind (mark_at marks m) s.turns m (Some least)) → IsLeastOn s best m
 decided s marks least best m ready are few no_less behind = least_by_number s marks best m are few
     (λ u. let h = behind u in
@@ -134,12 +134,12 @@ none_unsettled o marks t n m behind lt = elim (is_unsettled_by o (mark_at marks 
 ] refl
 
 -- ---- a machine of which the mark says that a rank bounds the line everywhere
-marked_raised : (s : Scene) (m : ℕ) (x : Rank) (k : MarkRecord) → IsEarliest s x → IsMarked s m (bounded_mark (Some (rank_of x)) s.turns k)
+marked_raised : (s : SearchInput) (m : ℕ) (x : Rank) (k : MarkRecord) → IsEarliest s x → IsMarked s m (bounded_mark (Some (rank_of x)) s.turns k)
 marked_raised s m x k earliest = record {
   bounded = λ opened. record { bounded = λ q has lt. bounded_by (board_in s) s.table.now.entries (Some (rank_of x)) k.groups (turn_in s.turn_of.now q) q m (earliest.bounded q m has) };
   later = λ opened a u turn here ge lt. absurd (omega (arith, ge, lt));
 }
 
-pub earliest_marked : (s : Scene) (m limit from : ℕ) (earliest : Option Rank) (k : MarkRecord) → IfSome earliest (λ x. IsEarliest s x) → IsSomeAnd earliest (λ x. limit ≤ packed x from) → IsMarked s m (bounded_mark (option_map rank_of earliest) s.turns k)
+pub earliest_marked : (s : SearchInput) (m limit from : ℕ) (earliest : Option Rank) (k : MarkRecord) → IfSome earliest (λ x. IsEarliest s x) → IsSomeAnd earliest (λ x. limit ≤ packed x from) → IsMarked s m (bounded_mark (option_map rank_of earliest) s.turns k)
 earliest_marked s m limit from None k h later = absurd later
 earliest_marked s m limit from (Some x) k h later = marked_raised s m x k h

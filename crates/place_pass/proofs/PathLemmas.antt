@@ -16,8 +16,8 @@ use Rattle.fuxi_terms.proofs.Booleans.{both_true, number_is, nat_itself}
 use Rattle.fuxi_terms.proofs.Lists.{all_at}
 use Rattle.fuxi_terms.proofs.Members.{In}
 use Rattle.fuxi_terms.specs.Tables.{Table}
-use Rattle.written_roles.specs.Masters.{level_of}
-use Rattle.written_roles.specs.Placing.{Board, has_pair}
+use Rattle.spec_roles.specs.Masters.{level_of}
+use Rattle.spec_roles.specs.Placing.{Board, has_pair}
 use Rattle.grant_table.specs.GrantTables.{TableRecord, IsSound, as_known, AreJobs}
 use Rattle.wait_queue.specs.declared.node.Entry.{Entry}
 use Rattle.locality_tree.specs.declared.path.Path.{Path}
@@ -28,12 +28,12 @@ use Rattle.place_pass.specs.Best.{AreAdmitted}
 use Rattle.place_pass.specs.Cells.{Cell, cell_at, asks_in, job_at}
 use Rattle.place_pass.specs.Placers.{AreLevel, board_over}
 use Rattle.place_pass.specs.WaitingLines.{same_pair}
-use Rattle.place_pass.specs.Sights.{turn_in}
+use Rattle.place_pass.specs.Candidates.{turn_in}
 use Rattle.place_pass.specs.PlacerTrees.{StandsAs, TreeOf, entry_for}
 use Rattle.place_pass.proofs.FirstByTurn.{less_first, less_rest}
 use Rattle.place_pass.proofs.WaitingLinesLemmas.{either_one, pair_is, pair_self, pair_turned}
 use Rattle.place_pass.proofs.CellsMatchTable.{rack_small, unit_is}
-use Rattle.place_pass.proofs.SightsLemmas.{bounded_by, bounded_wider, order, place_of, self_bound}
+use Rattle.place_pass.proofs.CandidatesLemmas.{bounded_by, bounded_wider, order, place_of, self_bound}
 use Rattle.place_pass.proofs.PlacerTreesLemmas.{IsOfLine, some_same, waiting_is}
 use Rattle.fuxi_terms.proofs.NumberOrders.{is_less}
 

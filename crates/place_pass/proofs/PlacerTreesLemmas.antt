@@ -9,7 +9,7 @@ use Rattle.fuxi_terms.specs.Cluster.{ClusterRecord, MachineRecord}
 use Rattle.fuxi_terms.specs.Keys.{Pair}
 use Rattle.fuxi_terms.proofs.Booleans.{number_is, or_false, or_right}
 use Rattle.fuxi_terms.proofs.Lists.{take_last}
-use Rattle.written_roles.specs.Placing.{has_pair}
+use Rattle.spec_roles.specs.Placing.{has_pair}
 use Rattle.wait_queue.specs.declared.node.Entry.{Entry}
 use Rattle.locality_tree.specs.Trees.{UnitState, TreeRecord, no_unit, unit_number, unit_at, is_admitted, idle, place_count, cluster_place, rack_place, racks_of, with_stand, refreshed, MayWait}
 use Rattle.place_pass.specs.Bounds.{IsRising, turn_at}
@@ -17,7 +17,7 @@ use Rattle.place_pass.specs.Cells.{Cell}
 use Rattle.place_pass.specs.WaitingLines.{same_pair}
 use Rattle.place_pass.specs.PlacerTrees.{entry_for, Holds, StandsAs, WaitsIn, Restood}
 use Rattle.place_pass.proofs.WaitingLinesLemmas.{any_append, pair_is, pair_self}
-use Rattle.place_pass.proofs.SightsLemmas.{place_of, same_place}
+use Rattle.place_pass.proofs.CandidatesLemmas.{place_of, same_place}
 use Rattle.fuxi_terms.proofs.IndexedLists.{one_set, repeated_at}
 use Rattle.fuxi_terms.specs.Tables.{Table}
 
@@ -276,7 +276,7 @@ module _ (c : ClusterRecord) (cells : List (List Cell)) (waits now : Pair → Bo
   pub begun_others : t' ≡ refreshed t (entry_for cells turns a u) true → (b v : ℕ) → v < 8 → same_pair (b, v) (a, u) ≡ false → unit_at t' b v ≡ unit_at t b v
   begun_others is b v lv f = unit_there t t' a u begun_state is (within_places t (unit_number a u) width) (unit_number b v) (numbers_apart a u b v lu lv f)
 
-  -- a unit that did not wait stood nowhere, and now stands at the cluster's place alone
+  -- a unit that did not wait stood in no queue, and now stands in that of the cluster alone
   pub begun_nowhere : waits (a, u) ≡ false → t' ≡ refreshed t (entry_for cells turns a u) true → (place : ℕ) → place < cluster_place t.racks → get_or (unit_at t' a u).stands place false ≡ false
   begun_nowhere none is place lt =
       let d : place ≢ cluster_place t.racks = omega (arith, lt) in

@@ -1,12 +1,10 @@
 -- What a placer was told after a job, a demand or a change was told.
-use Rattle.std.proofs.Common.{◌≡◌, ℕ, zero, suc, ◌+◌, ◌<◌, ◌≤◌, Bool, true, false, cond, not, nat_eq, nat_lt, List, [], ◌∷◌, length, map, filter, get_or, set, refl, sym, ◌∙◌, ap, subst, arith, inl, inr, Option, Some, None}
-use Rattle.std.specs.Prelude.{◌&&◌, ◌||◌, replicate, is_some}
+use Rattle.std.proofs.Common.{◌≡◌, ℕ, ◌+◌, ◌<◌, ◌≤◌, Bool, true, false, cond, not, nat_eq, nat_lt, List, [], ◌∷◌, length, map, filter, get_or, set, refl, sym, ◌∙◌, ap, subst, arith, inl, inr, Option, Some, None}
+use Rattle.std.specs.Prelude.{◌&&◌, ◌||◌, is_some}
 use Rattle.std.specs.Option.{option_map}
 use Rattle.std.proofs.lemmas.Bool.{cases_lt}
 use Rattle.std.proofs.lemmas.Bool.Decides.{nat_tests}
 use Rattle.std.proofs.lemmas.List.{get_or-map, length-map}
-use Rattle.std.proofs.lemmas.List.Elements.{All-from_get_or}
-use Rattle.std.proofs.lemmas.List.Sums.{sum_by-set, sum_by-le, sum_by-cons}
 use Rattle.std.proofs.Math.ListN.{get_or-eq_default}
 use Rattle.fuxi_terms.specs.Cluster.{ClusterRecord, JobRecord, UnitRecord, has_rack}
 use Rattle.fuxi_terms.specs.declared.Key.{Key}
@@ -22,12 +20,12 @@ use Rattle.fuxi_terms.proofs.Booleans.{number_is, nat_itself, both_true, eq_turn
 use Rattle.fuxi_terms.proofs.CountsLemmas.{count_le}
 use Rattle.fuxi_terms.proofs.KeyOrders.{key_total, same_key}
 use Rattle.fuxi_terms.proofs.Sums.{sum_set}
-use Rattle.written_roles.specs.Masters.{out_of}
-use Rattle.written_roles.specs.Placing.{has_pair, lined, waiting_in}
+use Rattle.spec_roles.specs.Masters.{out_of}
+use Rattle.spec_roles.specs.Placing.{has_pair, lined, waiting_in}
 use Rattle.grant_table.specs.GrantTables.{TableRecord, as_known, with_admitted}
-use Rattle.place_pass.specs.Cells.{Cell, no_cell, asks_at, asks_in, job_in, job_at, fresh_cell, fresh_cells, taken, taken_all, AreWishes}
+use Rattle.place_pass.specs.Cells.{Cell, no_cell, asks_at, asks_in, job_in, job_at, fresh_cell, fresh_cells, taken, taken_all}
 use Rattle.place_pass.specs.Best.{AreAdmitted}
-use Rattle.place_pass.specs.WaitingLines.{same_pair, units_in_all}
+use Rattle.place_pass.specs.WaitingLines.{AllMayWait, AreIn, same_pair}
 use Rattle.place_pass.specs.Placers.{AreLevel, is_there, IsSetFrom}
 use Rattle.place_pass.proofs.Places.{counted_at, counted_past}
 use Rattle.place_pass.proofs.CellsLemmas.{length-taken_all, get_or-taken_all}
@@ -35,29 +33,19 @@ use Rattle.place_pass.proofs.CellsMatchTable.{count_is}
 use Rattle.place_pass.proofs.WaitingLinesLemmas.{any_append, has_filter, has_flat, known_number, filter_same}
 use Rattle.fuxi_terms.proofs.IndexedLists.{one_set, repeated_at}
 
--- ---- how many units there are
-pub units_small : (c : ClusterRecord) (cells : List (List Cell)) (o : List Bool) → AreWishes c cells o → units_in_all cells ≤ 2048
-units_small c cells o h =
-    let b = sum_by-le (λ (xs : List Cell). length xs) 8 cells (All-from_get_or (λ (xs : List Cell). length xs ≤ 8) cells [] (λ i _. h.few i)) in
-    let p = h.places in
-    omega (arith, b, p)
-
-pub units_more : (cells : List (List Cell)) (a : ℕ) (xs : List Cell) → a < length cells → length (get_or cells a []) ≡ 0 → units_in_all (set cells a xs) ≡ units_in_all cells + length xs
-units_more cells a xs lt z = let s = sum_by-set (λ (xs : List Cell). length xs) cells a xs [] lt in omega (arith, s, z)
-
-pub units_same : (cells : List (List Cell)) (a : ℕ) (xs : List Cell) → a < length cells → length xs ≡ length (get_or cells a []) → units_in_all (set cells a xs) ≡ units_in_all cells
-units_same cells a xs lt e = let s = sum_by-set (λ (xs : List Cell). length xs) cells a xs [] lt in omega (arith, s, e)
-
-pub no_units : (n : ℕ) → units_in_all (replicate n []) ≡ 0
-no_units zero = refl
-no_units (suc n) = let r = no_units n in rw (sum_by-cons (λ (xs : List Cell). length xs) [] (replicate n [])) (omega (arith, r))
-
 -- ---- admitted pairs stay admitted
 pub admitted_more : (cells : List (List Cell)) (pairs : List Pair) (a : ℕ) (xs : List Cell) → a < length cells → length (get_or cells a []) ≤ length xs → AreAdmitted cells pairs → AreAdmitted (set cells a xs) pairs
 admitted_more cells pairs a xs lt le = all_more (λ (p : Pair). p.1 < length (get_or cells p.0 [])) (λ (p : Pair). p.1 < length (get_or (set cells a xs) p.0 [])) (λ p l. subst (λ ys. p.1 < length ys) (sym (one_set cells a p.0 xs [] lt)) (elim (nat_eq a p.0) as (λ t. nat_eq a p.0 ≡ t → p.1 < length (cond t xs (get_or cells p.0 []))) [
   | true ↦ λ t. let m : length (get_or cells p.0 []) ≤ length xs = subst (λ x. length (get_or cells x []) ≤ length xs) (number_is a p.0 t) le in omega (arith, m, l)
   | false ↦ λ _. l
 ] refl)) pairs
+
+-- and each unit of an admitted job may wait, where those of one more job may
+pub all_may_wait : (cells : List (List Cell)) (a : ℕ) (xs : List Cell) (old new : List Pair) → a < length cells → AllMayWait cells old → ((p : Pair) → has_pair p old ≡ true → has_pair p new ≡ true) → AreIn a (length xs) new → AllMayWait (set cells a xs) new
+all_may_wait cells a xs old new lt h kept here b u l = elim (nat_eq a b) as (λ t. nat_eq a b ≡ t → u < length (cond t xs (get_or cells b [])) → has_pair (b, u) new ≡ true) [
+  | true ↦ λ t few. subst (λ x. has_pair (x, u) new ≡ true) (number_is a b t) (here u few)
+  | false ↦ λ _ few. kept (b, u) (h b u few)
+] refl (subst (λ ys. u < length ys) (one_set cells a b xs [] lt) l)
 
 -- ---- a job is admitted
 none_there : (a : ℕ) (xs : List Cell) → job_in a xs ≡ None → xs ≡ []

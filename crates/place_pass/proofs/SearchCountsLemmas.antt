@@ -12,7 +12,7 @@ use Rattle.place_pass.specs.Bounds.{MarkRecord, mark_at, key_of, zero_rank, no_g
 use Rattle.place_pass.specs.Cells.{Cell, Lifts}
 use Rattle.place_pass.specs.SearchCounts.{is_unsettled_by, is_unsettled, count_below, IsTight, StaysTight}
 use Rattle.place_pass.specs.Placers.{PlacerRecord}
-use Rattle.place_pass.specs.Sights.{IsAsked}
+use Rattle.place_pass.specs.Candidates.{IsAsked}
 use Rattle.fuxi_terms.proofs.IndexedLists.{repeated_at}
 
 -- ---- how many machines are looked at

@@ -12,7 +12,7 @@ use Rattle.fuxi_terms.specs.Tables.{spot, held_on, held_in, Table}
 use Rattle.fuxi_terms.specs.TallyKeys.{near_key, rack_key}
 use Rattle.fuxi_terms.specs.declared.Key.{Key}
 use Rattle.fuxi_terms.proofs.Booleans.{and_true, both_true, nat_itself, not_true}
-use Rattle.written_roles.specs.Placing.{has_pair}
+use Rattle.spec_roles.specs.Placing.{has_pair}
 use Rattle.locality_tree.specs.Trees.{UnitState, TreeRecord, all_units, no_unit, unit_at, unit_number, idle, with_idle, with_job, started, place_count, rack_place, racks_of}
 use Rattle.place_pass.specs.Cells.{Cell, cell_at, asks_in, no_cell}
 use Rattle.place_pass.specs.WaitingLines.{same_pair}

@@ -5,9 +5,9 @@ use Rattle.fuxi_terms.specs.Cluster.{ClusterRecord}
 use Rattle.fuxi_terms.specs.declared.Key.{Key}
 use Rattle.fuxi_terms.specs.Keys.{Pair}
 use Rattle.fuxi_terms.proofs.Lists.{all_at}
-use Rattle.written_roles.specs.Placing.{has_pair}
+use Rattle.spec_roles.specs.Placing.{has_pair}
 use Rattle.place_pass.specs.Best.{AreAdmitted}
-use Rattle.place_pass.proofs.SightsLemmas.{place_of}
+use Rattle.place_pass.proofs.CandidatesLemmas.{place_of}
 use Rattle.fuxi_terms.specs.Tables.{Table, held_on, held_in}
 use Rattle.fuxi_terms.specs.TallyKeys.{key, near_key, rack_key}
 use Rattle.wait_queue.specs.declared.node.Entry.{Entry}

@@ -14,13 +14,13 @@ use Rattle.fuxi_terms.specs.TallyKeys.{want_key}
 use Rattle.fuxi_terms.specs.Tables.{spot, held, Table}
 use Rattle.fuxi_terms.proofs.Booleans.{both_true, number_is, or_right, not_true, and_with_true, zero_either}
 use Rattle.fuxi_terms.proofs.Sums.{sum_set}
-use Rattle.written_roles.specs.Masters.{out_of}
-use Rattle.written_roles.specs.Placing.{has_pair, waiting_in}
+use Rattle.spec_roles.specs.Masters.{out_of}
+use Rattle.spec_roles.specs.Placing.{has_pair, waiting_in}
 use Rattle.grant_table.specs.GrantTables.{TableRecord, as_known, AreJobs}
 use Rattle.place_pass.specs.Cells.{Cell, asks_in}
 use Rattle.place_pass.specs.WaitingLines.{same_pair}
 use Rattle.place_pass.specs.Placers.{IsSetFrom, IsStill}
-use Rattle.place_pass.proofs.WaitingLinesLemmas.{append_nil, filter_append, has_filter, has_flat, pair_is, pair_self}
+use Rattle.place_pass.proofs.WaitingLinesLemmas.{append_nil, filter_append, has_filter, has_flat, pair_self}
 
 -- ---- a job less is calm
 pub still_calm : (calm calm' : List Bool) (n a : ℕ) → get_or calm' a false ≡ (not (nat_eq n a) && get_or calm a false) → get_or calm' a false ≡ true → (nat_eq n a ≡ false) × (get_or calm a false ≡ true)
@@ -43,43 +43,6 @@ filter_alike q r [] h = refl
 filter_alike q r (x ∷ xs) h =
     ap (λ b. cond b (x ∷ filter q xs) (filter q xs)) (h x (ap (λ b. b || has_pair x xs) (pair_self x)))
     ∙ ap (λ ys. cond (r x) (x ∷ ys) ys) (filter_alike q r xs (λ p e. h p (or_right (same_pair p x) (has_pair p xs) e)))
-
--- one pair is asked: it leaves unless it waits
-pub left_more : (w : Pair → Bool) (line : List Pair) (q : Pair) → cond (w q) line (filter (λ p. not (same_pair p q)) line) ≡ filter (λ p. w p || not (same_pair p q)) line
-left_more w line q = elim (w q) as (λ b. w q ≡ b → cond b line (filter (λ p. not (same_pair p q)) line) ≡ filter (λ p. w p || not (same_pair p q)) line) [
-  | true ↦ λ t. sym (filter_all (λ p. w p || not (same_pair p q)) line (λ p _. agrees p true t))
-  | false ↦ λ f. sym (filter_alike (λ p. w p || not (same_pair p q)) (λ p. not (same_pair p q)) line (λ p _. agrees p false f))
-] refl
-  where
-    both : (x y : Bool) → (x || true) ≡ (y || true)
-    both true true = refl
-    both true false = refl
-    both false true = refl
-    both false false = refl
-
-    agrees : (p : Pair) (b : Bool) → w q ≡ b → (w p || not (same_pair p q)) ≡ (b || not (same_pair p q))
-    agrees p b e = elim (same_pair p q) as (λ t. same_pair p q ≡ t → (w p || not t) ≡ (b || not t)) [
-      | true ↦ λ t. ap (λ x. x || false) (ap w (pair_is p q t) ∙ e)
-      | false ↦ λ _. both (w p) b
-    ] refl
-
--- some are asked, and then others
-pub left_then : (w asked more all : Pair → Bool) (line left : List Pair) → left ≡ filter (λ p. w p || not (asked p)) line → ((p : Pair) → all p ≡ (asked p || more p)) → filter (λ p. w p || not (more p)) left ≡ filter (λ p. w p || not (all p)) line
-left_then w asked more all line left is e = ap (filter (λ p. w p || not (more p))) is ∙ then line
-  where
-    each : (x a b : Bool) → (x || not (a || b)) ≡ ((x || not a) && (x || not b))
-    each true a b = refl
-    each false true b = refl
-    each false false b = refl
-
-    then : (xs : List Pair) → filter (λ p. w p || not (more p)) (filter (λ p. w p || not (asked p)) xs) ≡ filter (λ p. w p || not (all p)) xs
-    then [] = refl
-    then (x ∷ xs) =
-        let here : (w x || not (all x)) ≡ ((w x || not (asked x)) && (w x || not (more x))) = ap (λ b. w x || not b) (e x) ∙ each (w x) (asked x) (more x) in
-        elim (w x || not (asked x)) as (λ b. (w x || not (all x)) ≡ (b && (w x || not (more x))) → filter (λ p. w p || not (more p)) (cond b (x ∷ filter (λ p. w p || not (asked p)) xs) (filter (λ p. w p || not (asked p)) xs)) ≡ cond (w x || not (all x)) (x ∷ filter (λ p. w p || not (all p)) xs) (filter (λ p. w p || not (all p)) xs)) [
-          | true ↦ λ h. ap (λ ys. cond (w x || not (more x)) (x ∷ ys) ys) (then xs) ∙ ap (λ b. cond b (x ∷ filter (λ p. w p || not (all p)) xs) (filter (λ p. w p || not (all p)) xs)) (sym h)
-          | false ↦ λ h. then xs ∙ ap (λ b. cond b (x ∷ filter (λ p. w p || not (all p)) xs) (filter (λ p. w p || not (all p)) xs)) (sym h)
-        ] here
 
 pub still_left : (cells : List (List Cell)) (line : List Pair) (calm : List Bool) (t : TableRecord) → IsStill cells line calm t → IsStill cells (filter (λ p. nat_lt 0 (out_of (asks_in cells) t.entries p.0 p.1)) line) calm t
 still_left cells line calm t h = record {

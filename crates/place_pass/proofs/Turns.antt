@@ -13,8 +13,8 @@ use Rattle.fuxi_terms.proofs.Alls.{all_more}
 use Rattle.fuxi_terms.proofs.Lists.{length-below}
 use Rattle.fuxi_terms.proofs.ValidJobs.{job_small, units_few}
 use Rattle.fuxi_terms.specs.Tables.{Table}
-use Rattle.written_roles.specs.Masters.{out_of}
-use Rattle.written_roles.specs.Placing.{waiting_in}
+use Rattle.spec_roles.specs.Masters.{out_of}
+use Rattle.spec_roles.specs.Placing.{waiting_in}
 use Rattle.grant_table.specs.GrantTables.{as_known, AreJobs}
 
 fewer : {A : Type 0} (q : A → Bool) (xs : List A) → length (filter q xs) ≤ length xs

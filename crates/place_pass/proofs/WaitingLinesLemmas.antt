@@ -1,25 +1,18 @@
--- The line: pairs that are new, members of what stays and of what joins, and room for each admitted unit.
-use Rattle.std.proofs.Common.{◌≡◌, ℕ, zero, suc, ◌+◌, ◌<◌, ◌≤◌, Bool, true, false, cond, nat_eq, nat_lt, List, [], ◌∷◌, ◌++◌, length, map, filter, get_or, take, refl, sym, ◌∙◌, ap, subst, arith, ◌⊎◌, inl, inr, append_assoc, add-one, Some, slice_get}
+-- The line: pairs that are new, and members of what stays and of what joins.
+use Rattle.std.proofs.Common.{◌≡◌, ℕ, zero, suc, ◌+◌, ◌<◌, ◌≤◌, Bool, true, false, cond, nat_eq, nat_lt, List, [], ◌∷◌, ◌++◌, length, map, filter, take, drop, refl, sym, ◌∙◌, ap, subst, arith, ◌⊎◌, inl, inr, append_assoc, add-one, Some, slice_get}
 use Rattle.std.specs.Prelude.{◌&&◌, ◌||◌}
 use Rattle.std.specs.List.{AllByRecursion, IsDistinct, list_any, flat_map}
-use Rattle.std.specs.Cmp.{IsEquivalence}
-use Rattle.std.proofs.lemmas.List.{length-append, length-map, map-append}
-use Rattle.std.proofs.lemmas.List.Sums.{sum_by-cons}
 use Rattle.std.proofs.lemmas.Bool.Decides.{nat_tests}
-use Rattle.std.proofs.lemmas.Map.Made.{length-le_from_is_member}
 use Rattle.std.specs.Option.{option_map, unwrap_or}
 use Rattle.fuxi_terms.specs.Cluster.{JobRecord}
 use Rattle.fuxi_terms.specs.Jobs.{KnownJob, job_of, unit_count}
-use Rattle.fuxi_terms.proofs.Lists.{length-below}
 use Rattle.grant_table.specs.GrantTables.{as_known}
 use Rattle.fuxi_terms.specs.Lists.{below}
 use Rattle.fuxi_terms.specs.Numbers.{has_number}
 use Rattle.fuxi_terms.proofs.Booleans.{both_true, number_is, nat_itself, or_right, and_false, both_false}
 use Rattle.fuxi_terms.specs.Keys.{Pair}
-use Rattle.written_roles.specs.Placing.{has_pair}
-use Rattle.place_pass.specs.Cells.{Cell}
-use Rattle.place_pass.specs.Best.{AreAdmitted}
-use Rattle.place_pass.specs.WaitingLines.{same_pair, units_in_all}
+use Rattle.spec_roles.specs.Placing.{has_pair}
+use Rattle.place_pass.specs.WaitingLines.{same_pair}
 
 -- ---- pairs
 pub pair_is : (p q : Pair) → same_pair p q ≡ true → p ≡ q
@@ -77,6 +70,12 @@ taken_whole [] zero h = refl
 taken_whole [] (suc n) h = refl
 taken_whole (x ∷ xs) zero h = absurd (omega (arith, h))
 taken_whole (x ∷ xs) (suc n) h = ap (λ ys. x ∷ ys) (taken_whole xs n (omega (arith, h)))
+
+pub dropped_whole : {A : Type 0} (xs : List A) (n : ℕ) → length xs ≤ n → drop n xs ≡ []
+dropped_whole [] zero h = refl
+dropped_whole [] (suc n) h = refl
+dropped_whole (x ∷ xs) zero h = absurd (omega (arith, h))
+dropped_whole (x ∷ xs) (suc n) h = dropped_whole xs n (omega (arith, h))
 
 -- one of distinct pairs is none of those before it
 pub distinct_at : (xs : List Pair) (i : ℕ) (p : Pair) → slice_get xs i ≡ Some p → IsDistinct same_pair xs → has_pair p (take i xs) ≡ false
@@ -148,70 +147,6 @@ has_flat units w a u (b ∷ bs) =
     absorbed true h = refl
     absorbed false true = refl
     absorbed false false = refl
-
--- ---- room
-pairs_from : ℕ → List (List Cell) → List Pair
-pairs_from a [] = []
-pairs_from a (xs ∷ xss) = map (λ u. (a, u)) (below (length xs)) ++ pairs_from (a + 1) xss
-
-length_pairs : (a : ℕ) (xss : List (List Cell)) → length (pairs_from a xss) ≡ units_in_all xss
-unfolding pairs_from
-length_pairs a [] = refl
-length_pairs a (xs ∷ xss) =
-    let l = length-append (map (λ u. (a, u)) (below (length xs))) (pairs_from (a + 1) xss) in
-    let f : ℕ → Pair = λ u. (a, u) in
-    let m = length-map (below (length xs)) f in
-    let b = length-below (length xs) in
-    let r = length_pairs (a + 1) xss in
-    rw (sum_by-cons (λ (xs : List Cell). length xs) xs xss) (omega (arith, l, m, b, r))
-
-has_all : (a u n : ℕ) → u < n → has_pair (a, u) (map (λ v. (a, v)) (below n)) ≡ true
-has_all a u zero lt = absurd (omega (arith, lt))
-has_all a u (suc n) lt = ap (has_pair (a, u)) (map-append (λ v. (a, v)) (below n) (n ∷ [])) ∙ any_append (same_pair (a, u)) (map (λ v. (a, v)) (below n)) ((a, n) ∷ [])
-    ∙ elim (nat_eq u n) as (λ t. nat_eq u n ≡ t → (has_pair (a, u) (map (λ v. (a, v)) (below n)) || ((nat_eq a a && t) || false)) ≡ true) [
-      | true ↦ λ t. or_right (has_pair (a, u) (map (λ v. (a, v)) (below n))) ((nat_eq a a && true) || false) (ap (λ b. (b && true) || false) (nat_itself a))
-      | false ↦ λ f. ap (λ b. b || ((nat_eq a a && false) || false)) (has_all a u n (grind (arith, nat_tests, f, lt)))
-    ] refl
-
-has_universe : (xss : List (List Cell)) (a b u k : ℕ) → b ≡ a + k → u < length (get_or xss k []) → has_pair (b, u) (pairs_from a xss) ≡ true
-unfolding pairs_from
-has_universe [] a b u k e lt = absurd (omega (arith, lt))
-has_universe (xs ∷ xss) a b u zero e lt =
-    let same : b ≡ a = omega (arith, e) in
-    subst (λ x. has_pair (x, u) (map (λ v. (a, v)) (below (length xs)) ++ pairs_from (a + 1) xss) ≡ true) (sym same)
-    (any_append (same_pair (a, u)) (map (λ v. (a, v)) (below (length xs))) (pairs_from (a + 1) xss) ∙ ap (λ b. b || has_pair (a, u) (pairs_from (a + 1) xss)) (has_all a u (length xs) lt))
-has_universe (xs ∷ xss) a b u (suc k) e lt =
-    any_append (same_pair (b, u)) (map (λ v. (a, v)) (below (length xs))) (pairs_from (a + 1) xss)
-    ∙ or_right (has_pair (b, u) (map (λ v. (a, v)) (below (length xs)))) (has_pair (b, u) (pairs_from (a + 1) xss)) (has_universe xss (a + 1) b u k (omega (arith, e)) lt)
-
--- a new admitted pair finds room
-pub room_left : (cells : List (List Cell)) (pairs : List Pair) (a u : ℕ) → AreAdmitted cells pairs → IsDistinct same_pair pairs → has_pair (a, u) pairs ≡ false → u < length (get_or cells a []) → length pairs + 1 ≤ units_in_all cells
-unfolding IsDistinct
-room_left cells pairs a u h d new lt =
-    let more = length-le_from_is_member laws ((a, u) ∷ pairs) (pairs_from 0 cells) (apart pairs new, d) (λ q e. elim (either_one (same_pair q (a, u)) (has_pair q pairs) e) [
-      | inl s ↦ subst (λ (x : Pair). has_pair x (pairs_from 0 cells) ≡ true) (sym (pair_is q (a, u) s)) (has_universe cells 0 a u a (omega arith) lt)
-      | inr t ↦ member q pairs t h
-    ]) in
-    let l = length_pairs 0 cells in
-    omega (arith, more, l)
-  where
-    apart : (ks : List Pair) → has_pair (a, u) ks ≡ false → AllByRecursion (λ y. same_pair (a, u) y ≡ false) ks
-    apart [] e = tt
-    apart (k ∷ ks) e = let n = both_false (same_pair (a, u) k) (has_pair (a, u) ks) e in (n.0, apart ks n.1)
-
-    member : (q : Pair) (ks : List Pair) → has_pair q ks ≡ true → AreAdmitted cells ks → has_pair q (pairs_from 0 cells) ≡ true
-    member q [] e h = cc
-    member q (k ∷ ks) e h = elim (either_one (same_pair q k) (has_pair q ks) e) [
-      | inl s ↦ subst (λ (x : Pair). has_pair x (pairs_from 0 cells) ≡ true) (sym (pair_is q k s)) (has_universe cells 0 k.0 k.1 k.0 (omega arith) h.0)
-      | inr t ↦ member q ks t h.1
-    ]
-
-    laws : IsEquivalence same_pair
-    laws = record {
-      refl = pair_self;
-      symm = pair_turned;
-      congr = λ x y z e. ap (λ w. same_pair w z) (pair_is x y e);
-    }
 
 pub append_nil : {A : Type 0} (xs : List A) → xs ++ [] ≡ xs
 append_nil [] = refl

@@ -9,8 +9,8 @@ use Rattle.fuxi_terms.specs.Cluster.{ClusterRecord, rack_of}
 use Rattle.fuxi_terms.specs.Keys.{Spot, Pair}
 use Rattle.fuxi_terms.specs.Tables.{held_in, Table}
 use Rattle.fuxi_terms.specs.TallyKeys.{rack_key}
-use Rattle.written_roles.specs.Masters.{level_of}
-use Rattle.written_roles.specs.Placing.{Board, accepts_in, has_room_in, is_allowed_in}
+use Rattle.spec_roles.specs.Masters.{level_of}
+use Rattle.spec_roles.specs.Placing.{Board, accepts_in, has_room_in, is_allowed_in}
 use Rattle.place_pass.specs.Cells.{Cell}
 use Rattle.place_pass.specs.declared.marks.Mark.{Mark}
 use Rattle.place_pass.specs.declared.marks.Rank.{Rank}

@@ -4,7 +4,7 @@ pub mod WaitingLines
 pub mod Best
 pub mod Bounds
 pub mod PackedRanks
-pub mod Sights
+pub mod Candidates
 pub mod SearchCounts
 pub mod PlacerTrees
 pub mod DemandWalks

@@ -5,7 +5,7 @@ use Rattle.fuxi_terms.specs.Cluster.{ClusterRecord}
 use Rattle.fuxi_terms.specs.Keys.{Pair}
 use Rattle.fuxi_terms.specs.Tables.{held_on, held_in, Table}
 use Rattle.fuxi_terms.specs.TallyKeys.{near_key, rack_key}
-use Rattle.written_roles.specs.Placing.{has_pair}
+use Rattle.spec_roles.specs.Placing.{has_pair}
 use Rattle.wait_queue.specs.declared.node.Entry.{Entry}
 use Rattle.locality_tree.specs.Trees.{TreeRecord, all_units, no_unit, unit_at, racks_of, rack_place, place_count}
 use Rattle.place_pass.specs.Bounds.{IsRising, turn_at}

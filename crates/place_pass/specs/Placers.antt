@@ -10,12 +10,12 @@ use Rattle.fuxi_terms.specs.Keys.{Spot, key_cmp, spot_cmp, Pair}
 use Rattle.fuxi_terms.specs.Counts.{count, set_count}
 use Rattle.fuxi_terms.specs.TallyKeys.{want_key, avoid_key}
 use Rattle.fuxi_terms.specs.Jobs.{KnownJob, job_of, job_numbers, unit_count, priority_of, size_at, most_of, group_of}
-use Rattle.written_roles.specs.Masters.{out_of}
-use Rattle.written_roles.specs.Placing.{Board, waiting_in, has_pair, is_allowed_in, placeable_in}
+use Rattle.spec_roles.specs.Masters.{out_of}
+use Rattle.spec_roles.specs.Placing.{Board, waiting_in, has_pair, is_allowed_in, placeable_in}
 use Rattle.std.specs.List.{AllByRecursion, list_any}
 use Rattle.std.specs.Ordering.{eq_by_cmp}
 use Rattle.grant_table.specs.GrantTables.{TableRecord, IsSound, as_known}
-use Rattle.place_pass.specs.WaitingLines.{LineRecord, units_in_all}
+use Rattle.place_pass.specs.WaitingLines.{LineRecord, AllMayWait}
 use Rattle.place_pass.specs.Bounds.{MarkRecord, mark_at, key_of, turn_at, IsRising, IsBounded, AreBoundedLater}
 use Rattle.place_pass.specs.Cells.{Cell, WishesRecord, asks_in, job_at, unit_places}
 use Rattle.place_pass.specs.PlacerTrees.{HoldsLine, AllStand}
@@ -187,15 +187,14 @@ pub record IsSetFrom (before after : TableRecord) (s : Spot) : Type 0 where
   pub number : ℕ
   pub is : after ≡ record before { entries = set_count spot_cmp before.entries s number }
 
--- what the fields of a placer show, and what they keep: the line has admitted units alone and room for all of them, and exactly the pairs of the line wait in the tree
+-- what the fields of a placer show, and what they keep: the line has admitted units alone and all of them may join it, and exactly the pairs of the line wait in the tree
 abbrev pub placer_record : WishesRecord → LineRecord → ℕ → Bool → List MarkRecord → List ℕ → List ℕ → TreeRecord → Bool → List Bool → PlacerRecord
 placer_record w line turns idle marks turn_of held tree forgotten calm = record { seen = record { cluster = w.cluster; cells = w.cells; opened = w.opened; line = line.pairs; turns = turns }; idle = idle; kept = record { marks = marks; turn_of = turn_of; held = held }; tree = tree; forgotten = forgotten; calm = calm }
 
-pub record IsPlacer (w : WishesRecord) (line : LineRecord) (units marks : ℕ) (turn_of : List ℕ) (held : ℕ) (tree : TreeRecord) : Type 0 where
+pub record IsPlacer (w : WishesRecord) (line : LineRecord) (marks : ℕ) (turn_of : List ℕ) (held : ℕ) (tree : TreeRecord) : Type 0 where
   pub admitted : AllByRecursion (λ (p : Pair). p.1 < length (get_or w.cells p.0 [])) line.pairs
   pub places : length w.cells ≡ most_jobs
-  pub counted : units ≡ units_in_all w.cells
-  pub room : units_in_all w.cells ≤ line.room
+  pub units : AllMayWait w.cells line.units
   pub marked : marks ≡ length w.cluster.machines
   pub turn_places : length turn_of ≡ unit_places
   pub held_places : held ≡ unit_places

@@ -9,13 +9,13 @@ ghost use Rattle.fuxi_terms.specs.Jobs.{unit_count};
 ghost use Rattle.fuxi_terms.specs.Keys.{key_cmp};
 ghost use Rattle.fuxi_terms.specs.TallyKeys.{want_key};
 ghost use Rattle.grant_table.specs.GrantTables.{as_known};
-ghost use Rattle.written_roles.specs.Placing.{has_pair};
+ghost use Rattle.spec_roles.specs.Placing.{has_pair};
 ghost use Rattle.locality_tree.specs.Trees.{unit_at, rack_place, with_stand};
 ghost use Rattle.place_pass.specs.Best.{AreAdmitted};
 ghost use Rattle.place_pass.specs.Bounds.{mark_at};
 ghost use Rattle.place_pass.specs.Cells.{cell_of, cells_in, no_cell, unit_places, asks_at, is_gone, ones_in, taken_all, any_more};
 ghost use Rattle.place_pass.specs.Placers.{is_named};
-ghost use Rattle.place_pass.specs.Sights.{IsAsked};
+ghost use Rattle.place_pass.specs.Candidates.{IsAsked};
 ghost use Rattle.place_pass.specs.PlacerTrees.{HoldsLine, AllStand, StandsAs, WaitsIn, is_unmet_on, is_unmet_in};
 ghost use Rattle.place_pass.specs.DemandScopes.{AsksSameBut, IsWritten, IsWrittenIn, StandsAt, StoodAt, asked_by, is_more_at};
 
@@ -205,7 +205,7 @@ pub(crate) fn mark_changes(
     }
 }
 
-// A unit that waits stands on a machine where it asks for more there than it has. One that is not there is passed.
+// A unit that waits stands in the queue of a machine where it asks for more there than it has. One that is not there is passed.
 fn stand_on(tree: &mut Tree, entry: &Entry, wishes: &Wishes, table: &GrantTable, number: u32)
     requires cluster { wishes.now.cluster ≡ table.now.cluster }
     requires here { entry.now.unit.0 < length (get_or wishes.now.cells entry.now.app.0 []) }

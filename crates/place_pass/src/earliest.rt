@@ -4,14 +4,14 @@ ghost use Rattle.std.specs.Prelude.{◌≡◌, ℕ, ◌<◌, ◌≤◌, List, tr
 ghost use Rattle.std.proofs.Common.{get_or};
 ghost use Rattle.fuxi_terms.specs.Cluster.{ClusterRecord};
 ghost use Rattle.fuxi_terms.specs.Tables.{Table};
-ghost use Rattle.written_roles.specs.Masters.{level_of};
+ghost use Rattle.spec_roles.specs.Masters.{level_of};
 ghost use Rattle.place_pass.specs.Cells.{asks_in};
 ghost use Rattle.place_pass.specs.Bounds.{rank_of, rank_at, is_bound};
-ghost use Rattle.place_pass.specs.Sights.{turn_in};
+ghost use Rattle.place_pass.specs.Candidates.{turn_in};
 ghost use Rattle.place_pass.specs.Scenes.{board_in, CanSearch, IsEarliest};
 
 use crate::marks::Rank;
-use crate::search::{Scene, is_earlier_here, turn_of_unit};
+use crate::search::{SearchInput, is_earlier_here, turn_of_unit};
 use crate::sparse::{is_clear, is_clear_to};
 use crate::wishes::Wishes;
 use fuxi_terms::limits::MOST_RACKS;
@@ -36,15 +36,15 @@ fn least_level(wishes: &Wishes, app: AppNo, unit: UnitNo) -> u8
 }
 
 // A rank that the unit comes before on no machine.
-fn rank_anywhere(scene: &Scene<'_>, app: AppNo, unit: UnitNo) -> Rank
-    requires ready { CanSearch scene.now }
-    requires unit { unit.0 < length (get_or scene.now.wishes.now.cells app.0 []) }
-    ensures { (m : ℕ) → is_bound (Some (rank_of result)) (rank_at (board_in scene.now) scene.now.table.now.entries (turn_in scene.now.turn_of.now (app.0, unit.0)) (app.0, unit.0) m) ≡ true }
+fn rank_anywhere(input: &SearchInput<'_>, app: AppNo, unit: UnitNo) -> Rank
+    requires ready { CanSearch input.now }
+    requires unit { unit.0 < length (get_or input.now.wishes.now.cells app.0 []) }
+    ensures { (m : ℕ) → is_bound (Some (rank_of result)) (rank_at (board_in input.now) input.now.table.now.entries (turn_in input.now.turn_of.now (app.0, unit.0)) (app.0, unit.0) m) ≡ true }
 {
-    let wishes = scene.wishes;
+    let wishes = input.wishes;
     let late = 9_u8.saturating_sub(wishes.wish(app, unit).priority);
     let level = least_level(wishes, app, unit);
-    let turn = turn_of_unit(wishes, scene.turn_of, app, unit);
+    let turn = turn_of_unit(wishes, input.turn_of, app, unit);
     Rank { late, level, turn }
 }
 
@@ -61,29 +61,29 @@ fn earlier_of(rank: Rank, other: Rank) -> Rank
 }
 
 // A rank that no pair of the line comes before on any machine.
-fn rank_of_line(scene: &Scene<'_>) -> Rank
-    requires ready { CanSearch scene.now }
-    ensures { IsEarliest scene.now result }
+fn rank_of_line(input: &SearchInput<'_>) -> Rank
+    requires ready { CanSearch input.now }
+    ensures { IsEarliest input.now result }
 {
     let mut rank = Rank {
         late: u8::MAX,
         level: u8::MAX,
         turn: u64::MAX,
     };
-    for place in 0..scene.line.len() {
-        let (app, unit) = scene.line.at(place);
-        rank = earlier_of(rank, rank_anywhere(scene, app, unit));
+    for place in 0..input.line.len() {
+        let (app, unit) = input.line.at(place);
+        rank = earlier_of(rank, rank_anywhere(input, app, unit));
     }
     rank
 }
 
 /// A rank that no pair of the line comes before on any machine, where the line is short.
-pub(crate) fn earliest(scene: &Scene<'_>) -> Option<Rank>
-    requires ready { CanSearch scene.now }
-    ensures { IfSome result (λ rank. IsEarliest scene.now rank) }
+pub(crate) fn earliest(input: &SearchInput<'_>) -> Option<Rank>
+    requires ready { CanSearch input.now }
+    ensures { IfSome result (λ rank. IsEarliest input.now rank) }
 {
-    if scene.line.len() > SHORT_LINE {
+    if input.line.len() > SHORT_LINE {
         return None;
     }
-    Some(rank_of_line(scene))
+    Some(rank_of_line(input))
 }

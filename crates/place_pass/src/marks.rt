@@ -10,11 +10,11 @@ ghost use Rattle.place_pass.specs.Cells.{cell_at, job_at, taken};
 ghost use Rattle.place_pass.specs.Placers.{AreAllowed, AreLevel, board_over};
 ghost use Rattle.place_pass.specs.Best.{AreAdmitted};
 ghost use Rattle.place_pass.specs.Bounds.{MarkRecord, rank_of, mark_of, mark_at, key_of, zero_rank, reset_mark, cleared_mark, limited_mark, lowered_mark, after_taking, is_nearer_in};
-ghost use Rattle.place_pass.specs.Sights.{IsAsked, IsForgotten};
+ghost use Rattle.place_pass.specs.Candidates.{IsAsked, IsForgotten};
 
 use crate::keys::{Keys, number_of_mark, number_of_none};
 use crate::line::Line;
-use crate::search::{Found, Scene, consider};
+use crate::search::{BestFound, SearchInput, consider};
 use crate::wishes::Wishes;
 use cluster_desc::Cluster;
 use fuxi_terms::OutOfMemory;
@@ -230,7 +230,7 @@ impl Marks {
     ghost use Rattle.place_pass.specs.Bounds.{rank_of, mark_of, mark_at, key_of, reset_mark, bounded_mark, limited_mark, lowered_mark, taken_mark, is_bound};
     ghost use Rattle.std.specs.Option.{option_map};
     ghost use Rattle.place_pass.specs.PackedRanks.{IsAbove};
-    ghost use Rattle.place_pass.specs.Sights.{found_rank, IsRaised};
+    ghost use Rattle.place_pass.specs.Candidates.{found_rank, IsRaised};
     ghost use Rattle.place_pass.specs.Scenes.{CanSearch, IsMarked, IsSettledBy, IsFoundIn, IsLeastOn};
 
     /// Of machines that were not looked at.
@@ -306,27 +306,27 @@ impl Marks {
     /// The best of what was found before and of what is placeable on one machine, which is looked at. Its mark is changed in place.
     pub(crate) fn consider<L: Ledger>(
         &mut self,
-        scene: &Scene<'_>,
+        input: &SearchInput<'_>,
         machine: MachineNo,
         steps: &mut Steps<L>,
-        best: &mut Option<Found>,
+        best: &mut Option<BestFound>,
     )
-        requires ready { CanSearch scene.now }
-        requires machine { machine.0 < length scene.now.table.now.cluster.machines }
+        requires ready { CanSearch input.now }
+        requires machine { machine.0 < length input.now.table.now.cluster.machines }
         requires there { machine.0 < length self.old }
-        requires old { IsMarked scene.now machine.0 (mark_at self.old machine.0) }
+        requires old { IsMarked input.now machine.0 (mark_at self.old machine.0) }
         ensures long { length self.new ≡ length self.old }
-        ensures mark { IsMarked scene.now machine.0 (mark_at self.new machine.0) }
+        ensures mark { IsMarked input.now machine.0 (mark_at self.new machine.0) }
         ensures others { (m : ℕ) → nat_eq machine.0 m ≡ false → mark_at self.new m ≡ mark_at self.old m }
-        ensures least { IsLeastOn scene.now best.new machine.0 }
+        ensures least { IsLeastOn input.now best.new machine.0 }
         ensures kept { (r : List ℕ) → is_bound (found_rank best.old) r ≡ true → is_bound (found_rank best.new) r ≡ true }
-        ensures found { IfSome best.old (λ x. IsFoundIn scene.now x) → IfSome best.new (λ x. IsFoundIn scene.now x) }
+        ensures found { IfSome best.old (λ x. IsFoundIn input.now x) → IfSome best.new (λ x. IsFoundIn input.now x) }
         ensures step { steps.new ≡ steps.old + 1 }
-        ensures settled { best.new ≡ None → IsSettledBy scene.now machine.0 (mark_at self.new machine.0) }
+        ensures settled { best.new ≡ None → IsSettledBy input.now machine.0 (mark_at self.new machine.0) }
         ensures empty { best.new ≡ None → best.old ≡ None }
     {
         let mark = &mut self.marks[machine.0 as usize];
-        consider(scene, machine, mark, steps, best);
+        consider(input, machine, mark, steps, best);
         let key = number_of_mark(mark, self.until, machine.0);
         self.noted |= mark.notes_any();
         self.keys.put(machine.0 as usize, key);

@@ -3,7 +3,7 @@
 use crate::calm::Calm;
 use crate::line::Line;
 use crate::marks::{Marks, forget_groups, limit_all, reset_one, tell};
-use crate::scope::{scope_of, tell_marks, tell_tree};
+use crate::scope::{Scope, tell_marks, tell_tree};
 use crate::search::{first, slot};
 use crate::standing::{enter_line, tell_spot};
 use crate::waiting::{join, leave, leave_unit, number_from};
@@ -25,8 +25,6 @@ use std::sync::ledger::Ledger;
 pub struct Placer {
     wishes: Wishes,
     line: Line,
-    /// How many units are admitted.
-    units: usize,
     turns: u64,
     /// Nothing is placeable until more is told.
     idle: bool,
@@ -50,7 +48,6 @@ impl Drop for Placer {
         let Placer {
             wishes,
             line,
-            units,
             turns,
             idle,
             marks,
@@ -72,24 +69,26 @@ impl Model for Placer {
 
     ghost use Rattle.std.specs.Prelude.{length};
 
-    ghost invariant = { λ p. IsPlacer p.wishes p.line p.units (length p.marks) p.turn_of.items (length p.held.items) p.tree };
+    ghost invariant = { λ p. IsPlacer p.wishes p.line (length p.marks) p.turn_of.items (length p.held.items) p.tree };
 }
 
 impl Placer {
     ghost use Rattle.std.specs.Prelude.{◌≡◌, ℕ, ◌+◌, ◌<◌, ◌≤◌, ◌^◌, ◌&&◌, ◌||◌, true, false, not, nat_eq, nat_lt, cond, [], length, filter, replicate, Some, None, IfOk, IfSome, OnOk, OnErr};
     ghost use Rattle.std.specs.Option.{is_none, option_map};
+    ghost use Rattle.std.proofs.Common.{get_or};
     ghost use Rattle.fuxi_terms.specs.declared.Key.{Key};
     ghost use Rattle.fuxi_terms.specs.Keys.{spot_cmp};
     ghost use Rattle.fuxi_terms.specs.TallyKeys.{want_key, avoid_key};
     ghost use Rattle.fuxi_terms.specs.Counts.{count};
     ghost use Rattle.fuxi_terms.specs.Jobs.{is_known, unit_count};
     ghost use Rattle.fuxi_terms.specs.Tables.{spot, held_on};
-    ghost use Rattle.written_roles.specs.Masters.{level_of, out_of};
-    ghost use Rattle.written_roles.specs.Placing.{first_in, lined, has_pair, placeable_in};
+    ghost use Rattle.spec_roles.specs.Masters.{level_of, out_of};
+    ghost use Rattle.spec_roles.specs.Placing.{first_in, lined, has_pair, placeable_in};
     ghost use Rattle.grant_table.specs.GrantTables.{TableRecord, as_known, with_admitted};
     ghost use Rattle.place_pass.specs.PlacerTrees.{TreeOf};
     ghost use Rattle.place_pass.specs.Best.{spot_of};
     ghost use Rattle.place_pass.specs.SearchCounts.{IsLifted, IsTight, StaysTight, is_unsettled, unsettled_machines};
+    ghost use Rattle.place_pass.specs.DemandScopes.{AsksWithin};
     ghost use Rattle.place_pass.specs.Placers.{AreAllowed, AreLevel, job_seen, asks_seen, asks_after, is_open, units_seen, IsLevelWith, IsUpToDate, IsSetFrom, IsGrantable, board_with, waiting_with, line_told, AsksNoMore, AsksOtherwiseAt};
 
     /// A placer of a cluster, with no job, and with no machine open. It is level with the empty table. Where memory
@@ -108,7 +107,6 @@ impl Placer {
         Ok(Placer {
             wishes,
             line,
-            units: 0,
             turns: 0,
             idle: false,
             marks,
@@ -120,7 +118,7 @@ impl Placer {
         })
     }
 
-    /// Admits a job, of which nothing is asked yet, and reserves what its units can need. What the placer was
+    /// Admits a job, of which nothing is asked yet, and takes what memory its units can need. What the placer was
     /// told is as before after the refusal.
     pub fn admit(&mut self, alloc: Global, job: &Job) -> Result<(), OutOfMemory>
         requires new { job_seen self.old.seen job.now.number ≡ None }
@@ -133,35 +131,49 @@ impl Placer {
         ensures err_level { OnErr result ((t : TableRecord) → IsLevelWith self.old t → IsLevelWith self.new t) }
     {
         law::admitted_jobs();
-        let _cluster = self.wishes.cluster();
-        let units = self.units + job.units() as usize;
-        self.line.reserve(units)?;
+        self.wishes.are_sound();
+        let app = job.app();
+        self.line.admit_units(app.0, job.units())?;
         let machines = self.wishes.cluster().machines();
         let fresh = fresh_units(alloc, job, machines)?;
         self.tree.admit(alloc, job)?;
         limit_all(&mut self.marks, self.turns);
         self.wishes.add_job(alloc, job, fresh);
-        self.calm.stir(job.app());
-        self.units = units;
+        self.calm.stir(app);
         Ok(())
     }
 
     /// The demand of an admitted job is now this one. Its entries for a unit, machine or rack that is not there
     /// count as absent. An idle placer stays so where no want rises and each avoided machine is avoided still.
-    /// Of a tight placer at most the machines that a unit no longer avoids become unsettled. Where the changes are
-    /// given the demand asks otherwise than before only at keys that they name, and no other key is looked up. The
-    /// amounts of the changes are not read.
-    pub fn asked(
+    /// Of a tight placer at most the machines that a unit no longer avoids become unsettled.
+    pub fn asked(&mut self, table: &GrantTable, app: AppNo, demand: &Demand)
+        requires cluster { self.old.seen.cluster ≡ table.now.cluster }
+        requires here { 0 < units_seen self.old.seen app.0 }
+        requires there { is_known (as_known table.now.jobs) app.0 ≡ true }
+        ensures asks { (a : ℕ) (k : Key) → asks_seen self.new.seen a k ≡ asks_after self.old.seen app.0 demand.now.entries a k }
+        ensures jobs { (a : ℕ) → job_seen self.new.seen a ≡ job_seen self.old.seen a }
+        ensures rest { self.new.seen ≡ record self.old.seen { cells = self.new.seen.cells } }
+        ensures level { IsLevelWith self.old table.now → IsLevelWith self.new table.now }
+        ensures idle { AsksNoMore (asks_seen self.old.seen) (asks_seen self.new.seen) app.0 → self.new.idle ≡ self.old.idle }
+        ensures tight { IsTight self.old → StaysTight self.old self.new (IsLifted (asks_seen self.old.seen) (asks_seen self.new.seen) app.0) }
+    {
+        let differing = self.wishes.differing(app, demand);
+        self.hear(table, app, demand, &Scope::Units(differing));
+    }
+
+    /// As `asked`, where the demand asks otherwise than before only at keys that the changes name. No other key is
+    /// looked up. The amounts of the changes are not read.
+    pub fn asked_changes(
         &mut self,
         table: &GrantTable,
         app: AppNo,
         demand: &Demand,
-        changes: Option<&[(Key, i64)]>,
+        changes: &[(Key, i64)],
     )
         requires cluster { self.old.seen.cluster ≡ table.now.cluster }
         requires here { 0 < units_seen self.old.seen app.0 }
         requires there { is_known (as_known table.now.jobs) app.0 ≡ true }
-        requires told { IfSome changes (λ c. AsksOtherwiseAt c.now self.old.seen app.0 demand.now.entries) }
+        requires told { AsksOtherwiseAt changes.now self.old.seen app.0 demand.now.entries }
         ensures asks { (a : ℕ) (k : Key) → asks_seen self.new.seen a k ≡ asks_after self.old.seen app.0 demand.now.entries a k }
         ensures jobs { (a : ℕ) → job_seen self.new.seen a ≡ job_seen self.old.seen a }
         ensures rest { self.new.seen ≡ record self.old.seen { cells = self.new.seen.cells } }
@@ -170,10 +182,26 @@ impl Placer {
         ensures tight { IsTight self.old → StaysTight self.old self.new (IsLifted (asks_seen self.old.seen) (asks_seen self.new.seen) app.0) }
     {
         let counts = demand.entries();
-        let _wishes = self.wishes.cluster();
-        let scope = scope_of(&self.wishes, app, demand, changes);
-        tell_marks(&mut self.marks, &self.wishes, app, demand, &scope);
-        let more = self.wishes.hear(app, demand, &scope);
+        self.hear(table, app, demand, &Scope::Keys(changes));
+    }
+
+    // The demand of an admitted job is now this one, which asks otherwise than before only within the scope.
+    fn hear(&mut self, table: &GrantTable, app: AppNo, demand: &Demand, scope: &Scope)
+        requires cluster { self.old.seen.cluster ≡ table.now.cluster }
+        requires here { 0 < units_seen self.old.seen app.0 }
+        requires there { is_known (as_known table.now.jobs) app.0 ≡ true }
+        requires within { AsksWithin scope.now self.old.seen.cluster demand.now.entries (get_or self.old.seen.cells app.0 []) }
+        ensures asks { (a : ℕ) (k : Key) → asks_seen self.new.seen a k ≡ asks_after self.old.seen app.0 demand.now.entries a k }
+        ensures jobs { (a : ℕ) → job_seen self.new.seen a ≡ job_seen self.old.seen a }
+        ensures rest { self.new.seen ≡ record self.old.seen { cells = self.new.seen.cells } }
+        ensures level { IsLevelWith self.old table.now → IsLevelWith self.new table.now }
+        ensures idle { AsksNoMore (asks_seen self.old.seen) (asks_seen self.new.seen) app.0 → self.new.idle ≡ self.old.idle }
+        ensures tight { IsTight self.old → StaysTight self.old self.new (IsLifted (asks_seen self.old.seen) (asks_seen self.new.seen) app.0) }
+    {
+        let counts = demand.entries();
+        self.wishes.are_sound();
+        tell_marks(&mut self.marks, &self.wishes, app, demand, scope);
+        let more = self.wishes.hear(app, demand, scope);
         self.calm.stir(app);
         self.idle &= !more;
         tell_tree(
@@ -183,7 +211,7 @@ impl Placer {
             &self.turn_of,
             table,
             app,
-            &scope,
+            scope,
         );
     }
 
@@ -202,7 +230,7 @@ impl Placer {
         ensures tight { IsTight self.old → StaysTight self.old self.new (λ m. m ≡ machine.0) }
     {
         self.idle = false;
-        let _wishes = self.wishes.cluster();
+        self.wishes.are_sound();
         let place = slot(app, unit);
         self.calm.stir(app);
         tell(
@@ -245,7 +273,7 @@ impl Placer {
         ensures level { (t : TableRecord) → IsLevelWith self.old t → IsLevelWith self.new t }
         ensures idle { self.new.idle ≡ (self.old.idle && (not usable || is_open self.old.seen machine.0)) }
     {
-        let _cluster = self.wishes.cluster();
+        self.wishes.are_sound();
         let opened = self.wishes.is_open(machine);
         self.wishes.open(machine, usable);
         let stays = !usable | opened;
@@ -270,8 +298,8 @@ impl Placer {
         ensures tight { self.new.seen.turns ≡ self.old.seen.turns → IsTight self.old → StaysTight self.old self.new (λ _. ⊥) }
     {
         law::admitted_jobs();
-        let _cluster = table.cluster();
-        let _wishes = self.wishes.cluster();
+        table.is_sound();
+        self.wishes.are_sound();
         let before = self.line.len();
         let begins = leave(
             &mut self.line,
@@ -311,7 +339,7 @@ impl Placer {
         ensures few { (m : ℕ) → 0 < result → held_on table.now.entries app.0 unit.0 m < 100000 }
     {
         law::set_numbers();
-        let _sound = table.cluster();
+        table.is_sound();
         let _wish = self.wishes.wish(app, unit);
         self.wishes.outstanding(table, app, unit)
     }
@@ -348,7 +376,7 @@ impl Placer {
     }
 
     /// The tree of the waiting pairs. In it exactly the pairs of the line wait, each with its priority and its turn, and
-    /// stand on each machine and in each rack where they ask for more than they have.
+    /// stand in the queue of each machine and rack where they ask for more than they have.
     pub fn tree(&self, table: &GrantTable) -> &Tree
         requires level { IsLevelWith self.now table.now }
         requires up { IsUpToDate self.now.seen table.now }
@@ -376,8 +404,8 @@ impl Placer {
         ensures rest { result ≡ None → AreAllowed table.now self.old.seen.line → IsTight self.new }
         ensures settled { result ≡ None → (m : ℕ) → is_unsettled self.new m ≡ false }
     {
-        let _table = table.cluster();
-        let _wishes = self.wishes.cluster();
+        table.is_sound();
+        self.wishes.are_sound();
         let rests = self.idle & self.forgotten;
         if rests {
             return None;
@@ -412,7 +440,7 @@ impl Placer {
         requires machine { pick.machine.0 < length table.now.cluster.machines }
         ensures { result ≡ level_of table.now.cluster (asks_seen self.now.seen) table.now.entries pick.app.0 pick.unit.0 pick.machine.0 }
     {
-        let _wishes = self.wishes.cluster();
+        self.wishes.are_sound();
         self.wishes.level(table, pick.app, pick.unit, pick.machine)
     }
 
@@ -426,8 +454,8 @@ impl Placer {
         ensures grantable { result ≡ true → IsGrantable table.now (spot_of pick) }
         ensures count { steps.new ≤ steps.old + 1 }
     {
-        let _table = table.cluster();
-        let _wishes = self.wishes.cluster();
+        table.is_sound();
+        self.wishes.are_sound();
         let Pick { app, unit, machine } = pick;
         if self.wishes.outstanding(table, app, unit) == 0 {
             return false;

@@ -1,16 +1,16 @@
 //! Where a demand asks otherwise than before, and who is told of it there.
 
-ghost use Rattle.std.specs.Prelude.{◌≡◌, ℕ, ◌<◌, true, false, nat_eq, [], length, IfSome};
+ghost use Rattle.std.specs.Prelude.{◌≡◌, ℕ, ◌<◌, true, false, nat_eq, [], length};
 ghost use Rattle.std.proofs.Common.{get_or};
 ghost use Rattle.fuxi_terms.specs.Jobs.{unit_count};
 ghost use Rattle.grant_table.specs.GrantTables.{as_known};
-ghost use Rattle.written_roles.specs.Placing.{has_pair};
+ghost use Rattle.spec_roles.specs.Placing.{has_pair};
 ghost use Rattle.place_pass.specs.Best.{AreAdmitted};
 ghost use Rattle.place_pass.specs.Bounds.{mark_at};
 ghost use Rattle.place_pass.specs.Cells.{unit_places};
-ghost use Rattle.place_pass.specs.Sights.{IsAsked};
+ghost use Rattle.place_pass.specs.Candidates.{IsAsked};
 ghost use Rattle.place_pass.specs.PlacerTrees.{HoldsLine, AllStand, StandsAs};
-ghost use Rattle.place_pass.specs.DemandScopes.{AsksSameBut, AsksWithin, StandsWithin};
+ghost use Rattle.place_pass.specs.DemandScopes.{AsksWithin, StandsWithin};
 
 use crate::changes::{mark_changes, stand_changes};
 use crate::line::Line;
@@ -49,22 +49,6 @@ impl Wishes {
             Scope::Units(differing) => self.asked(app, demand, differing),
             Scope::Keys(changes) => self.asked_at(app, demand, changes),
         }
-    }
-}
-
-/// Where a demand asks otherwise than before: at the keys that the changes name, or else of the units that differ.
-pub(crate) fn scope_of<'a>(
-    wishes: &Wishes,
-    app: AppNo,
-    demand: &Demand,
-    changes: Option<&'a [(Key, i64)]>,
-) -> Scope<'a>
-    requires { IfSome changes (λ c. AsksSameBut c.now wishes.now.cluster demand.now.entries (get_or wishes.now.cells app.0 [])) }
-    ensures { AsksWithin result wishes.now.cluster demand.now.entries (get_or wishes.now.cells app.0 []) }
-{
-    match changes {
-        Some(changes) => Scope::Keys(changes),
-        None => Scope::Units(wishes.differing(app, demand)),
     }
 }
 

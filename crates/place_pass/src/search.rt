@@ -10,8 +10,8 @@ ghost use Rattle.fuxi_terms.specs.Vectors.{at_place};
 ghost use Rattle.fuxi_terms.specs.Cluster.{limit_at};
 ghost use Rattle.fuxi_terms.specs.Limits.{most_jobs};
 ghost use Rattle.fuxi_terms.specs.Keys.{Pair};
-ghost use Rattle.written_roles.specs.Masters.{out_of};
-ghost use Rattle.written_roles.specs.Placing.{first_in, accepts_in, has_room_in, is_allowed_in, has_pair};
+ghost use Rattle.spec_roles.specs.Masters.{out_of};
+ghost use Rattle.spec_roles.specs.Placing.{first_in, accepts_in, has_room_in, is_allowed_in, has_pair};
 ghost use Rattle.place_pass.specs.Cells.{asks_in, job_at, unit_places};
 ghost use Rattle.place_pass.specs.Placers.{AreLevel, board_over};
 ghost use Rattle.place_pass.specs.Best.{spot_of, AreAdmitted};
@@ -19,7 +19,7 @@ ghost use Rattle.place_pass.specs.Bounds.{MarkRecord, rank_of, mark_of, mark_at,
 ghost use Rattle.place_pass.specs.SearchCounts.{is_unsettled_by, count_below};
 ghost use Rattle.place_pass.specs.PlacerTrees.{TreeOf};
 ghost use Rattle.place_pass.specs.PackedRanks.{packed, IsSmall, IsAbove};
-ghost use Rattle.place_pass.specs.Sights.{IsBehind, AreBehind, ArePassed, limit_in, number_in, sight_rank, rank_with, found_rank, turn_in, IsFree, IsSight, AreBounded, is_first};
+ghost use Rattle.place_pass.specs.Candidates.{IsBehind, AreBehind, ArePassed, limit_in, number_in, sight_rank, rank_with, found_rank, turn_in, IsFree, IsSight, AreBounded, is_first};
 ghost use Rattle.place_pass.specs.Scenes.{board_in, CanSearch, IsBestOn, IsMarked, IsSettledBy, AreMarked, IsFoundIn, IsLeastOn, IsEarliest};
 
 use crate::earliest::earliest;
@@ -37,14 +37,14 @@ use std::sync::ledger::Ledger;
 
 /// A placeable pair of a unit and a machine, with its rank there.
 #[derive(Clone, Copy, Debug)]
-pub(crate) struct Found {
+pub(crate) struct BestFound {
     pub(crate) rank: Rank,
     pub(crate) pick: Pick,
 }
 
 /// The best pair of one machine, with its rank there.
 #[derive(Clone, Copy, Debug)]
-pub(crate) struct Sight {
+pub(crate) struct Candidate {
     pub(crate) rank: Rank,
     pub(crate) app: AppNo,
     pub(crate) unit: UnitNo,
@@ -59,7 +59,7 @@ pub(crate) struct Least {
 
 /// What a search reads: what is asked, the line with its tree and the turns of its pairs, the next turn, and the table.
 #[derive(Clone, Copy)]
-pub(crate) struct Scene<'a> {
+pub(crate) struct SearchInput<'a> {
     pub(crate) wishes: &'a Wishes,
     pub(crate) line: &'a Line,
     pub(crate) tree: &'a Tree,
@@ -71,14 +71,14 @@ pub(crate) struct Scene<'a> {
 impl Wishes {
     ghost use Rattle.std.specs.Prelude.{◌≡◌, ℕ, ◌<◌, ◌&&◌, true, false, [], length};
     ghost use Rattle.std.proofs.Common.{get_or};
-    ghost use Rattle.written_roles.specs.Masters.{out_of, level_of};
-    ghost use Rattle.written_roles.specs.Placing.{is_allowed_in, accepts_in, has_room_in};
+    ghost use Rattle.spec_roles.specs.Masters.{out_of, level_of};
+    ghost use Rattle.spec_roles.specs.Placing.{is_allowed_in, accepts_in, has_room_in};
     ghost use Rattle.fuxi_terms.specs.Jobs.{unit_count, group_of, size_at};
     ghost use Rattle.grant_table.specs.GrantTables.{as_known};
     ghost use Rattle.place_pass.specs.Cells.{asks_in, job_at};
     ghost use Rattle.place_pass.specs.Placers.{AreLevel, board_over};
     ghost use Rattle.place_pass.specs.Bounds.{is_nearer_in};
-    ghost use Rattle.place_pass.specs.Sights.{IsFree};
+    ghost use Rattle.place_pass.specs.Candidates.{IsFree};
     ghost use Rattle.fuxi_terms.specs.Tables.{spot};
 
     /// What a unit still wants.
@@ -98,7 +98,7 @@ impl Wishes {
         ensures group { result.0 ≡ group_of (as_known table.now.jobs) app.0 }
         ensures small { result.0 < 32 }
     {
-        let _table = table.cluster();
+        table.is_sound();
         self.wish(app, unit).group
     }
 
@@ -110,7 +110,7 @@ impl Wishes {
     {
         let wish = self.wish(app, unit);
         let group = group_or_none(table.cluster(), wish.group);
-        allows(&group, table.used_by(wish.group), &wish.size)
+        allows(&group, &table.used_by(wish.group), &wish.size)
     }
 
     // Whether a machine of which this is all that is free has room for the unit.
@@ -119,7 +119,7 @@ impl Wishes {
         requires unit { unit.0 < length (get_or self.now.cells app.0 []) }
         ensures { (m : ℕ) → IsFree table.now m free.now.q → result ≡ has_room_in table.now.cluster (board_over self.now.cells self.now.opened table.now).sizes table.now.entries app.0 unit.0 m }
     {
-        let _table = table.cluster();
+        table.is_sound();
         let wish = self.wish(app, unit);
         fits(&wish.size, free)
     }
@@ -158,8 +158,8 @@ impl Wishes {
         requires level { AreLevel self.now.cluster (job_at self.now.cells) table.now }
         ensures { result ≡ true → (m a u : ℕ) → IsFree table.now m free.now.q → u < length (get_or self.now.cells a []) → has_room_in table.now.cluster (board_over self.now.cells self.now.opened table.now).sizes table.now.entries a u m ≡ false }
     {
-        let _table = table.cluster();
-        let _wishes = self.cluster();
+        table.is_sound();
+        self.are_sound();
         self.none_fits(free)
     }
 
@@ -226,7 +226,7 @@ fn comes_first(a: u64, b: u64, rest: bool) -> bool
 }
 
 // Whether a pair on one machine comes before a pair on another.
-fn is_earlier(rank: &Rank, machine: MachineNo, found: &Found) -> bool
+fn is_earlier(rank: &Rank, machine: MachineNo, found: &BestFound) -> bool
     ensures { result ≡ comes_before (rank_of rank.now ++ machine.0 ∷ []) (rank_with found.now) }
 {
     let other = &found.rank;
@@ -246,7 +246,7 @@ pub(crate) fn is_earlier_here(rank: &Rank, other: &Rank) -> bool
 }
 
 // Whether a rank comes before that of the best so far.
-fn may_be_nearer(best: &Option<Sight>, rank: &Rank) -> bool
+fn may_be_nearer(best: &Option<Candidate>, rank: &Rank) -> bool
     ensures sooner { result ≡ true → (r : List ℕ) → is_bound (sight_rank best.now) r ≡ true → is_bound (Some (rank_of rank.now)) r ≡ true }
     ensures later { result ≡ false → is_bound (sight_rank best.now) (rank_of rank.now) ≡ true }
 {
@@ -271,41 +271,41 @@ pub(crate) fn turn_of_unit(wishes: &Wishes, turn_of: &[u64], app: AppNo, unit: U
     requires places { length turn_of.now ≡ unit_places }
     ensures { result ≡ turn_in turn_of.now (app.0, unit.0) }
 {
-    let _wishes = wishes.cluster();
+    wishes.are_sound();
     turn_of[slot(app, unit)]
 }
 
 // The place from which on as many pairs stand as turns were given since this one, where the first of them has it: then none of them
 // has left the line.
-fn place_by_turns(scene: &Scene<'_>, turn: u64) -> Option<usize>
-    requires ready { CanSearch scene.now }
-    ensures { IfSome result (λ place. (k : ℕ) (p : Pair) → k < place → slice_get scene.now.line.now.pairs k ≡ Some p → turn_in scene.now.turn_of.now p < turn) }
+fn place_by_turns(input: &SearchInput<'_>, turn: u64) -> Option<usize>
+    requires ready { CanSearch input.now }
+    ensures { IfSome result (λ place. (k : ℕ) (p : Pair) → k < place → slice_get input.now.line.now.pairs k ≡ Some p → turn_in input.now.turn_of.now p < turn) }
 {
-    let len = scene.line.len();
-    let since = scene.turns.saturating_sub(turn);
+    let len = input.line.len();
+    let since = input.turns.saturating_sub(turn);
     if since == 0 || since > len as u64 {
         return None;
     }
     let place = len - since as usize;
-    let (app, unit) = scene.line.at(place);
-    if turn_of_unit(scene.wishes, scene.turn_of, app, unit) != turn {
+    let (app, unit) = input.line.at(place);
+    if turn_of_unit(input.wishes, input.turn_of, app, unit) != turn {
         return None;
     }
     Some(place)
 }
 
 // The place from which on the turns are at least this one.
-fn place_from(scene: &Scene<'_>, turn: u64) -> usize
-    requires ready { CanSearch scene.now }
-    ensures { (k : ℕ) (p : Pair) → k < result → slice_get scene.now.line.now.pairs k ≡ Some p → turn_in scene.now.turn_of.now p < turn }
+fn place_from(input: &SearchInput<'_>, turn: u64) -> usize
+    requires ready { CanSearch input.now }
+    ensures { (k : ℕ) (p : Pair) → k < result → slice_get input.now.line.now.pairs k ≡ Some p → turn_in input.now.turn_of.now p < turn }
 {
-    if let Some(place) = place_by_turns(scene, turn) {
+    if let Some(place) = place_by_turns(input, turn) {
         return place;
     }
-    let mut place = scene.line.len();
+    let mut place = input.line.len();
     while place > 0 {
-        let (app, unit) = scene.line.at(place - 1);
-        if turn_of_unit(scene.wishes, scene.turn_of, app, unit) < turn {
+        let (app, unit) = input.line.at(place - 1);
+        if turn_of_unit(input.wishes, input.turn_of, app, unit) < turn {
             return place;
         }
         place -= 1;
@@ -314,18 +314,23 @@ fn place_from(scene: &Scene<'_>, turn: u64) -> usize
 }
 
 // Whether the limit of its group allows one grant more of the unit. Where it does not the group is noted.
-fn allowed_or_noted(scene: &Scene<'_>, app: AppNo, unit: UnitNo, groups: &mut [bool; 32]) -> bool
-    requires level { AreLevel scene.now.wishes.now.cluster (job_at scene.now.wishes.now.cells) scene.now.table.now }
-    requires unit { unit.0 < length (get_or scene.now.wishes.now.cells app.0 []) }
-    ensures allowed { result ≡ true → is_allowed_in scene.now.table.now.cluster (board_in scene.now).groups (board_in scene.now).sizes scene.now.table.now.entries app.0 unit.0 ≡ true }
-    ensures bounded { result ≡ false → (bound : Option (List ℕ)) (t m : ℕ) → IsBounded (board_in scene.now) scene.now.table.now.entries bound groups.new t (app.0, unit.0) m }
+fn allowed_or_noted(
+    input: &SearchInput<'_>,
+    app: AppNo,
+    unit: UnitNo,
+    groups: &mut [bool; 32],
+) -> bool
+    requires level { AreLevel input.now.wishes.now.cluster (job_at input.now.wishes.now.cells) input.now.table.now }
+    requires unit { unit.0 < length (get_or input.now.wishes.now.cells app.0 []) }
+    ensures allowed { result ≡ true → is_allowed_in input.now.table.now.cluster (board_in input.now).groups (board_in input.now).sizes input.now.table.now.entries app.0 unit.0 ≡ true }
+    ensures bounded { result ≡ false → (bound : Option (List ℕ)) (t m : ℕ) → IsBounded (board_in input.now) input.now.table.now.entries bound groups.new t (app.0, unit.0) m }
     ensures kept { (g : ℕ) → get_or groups.old g false ≡ true → get_or groups.new g false ≡ true }
     ensures same { result ≡ true → groups.new ≡ groups.old }
 {
-    if scene.wishes.allowed(scene.table, app, unit) {
+    if input.wishes.allowed(input.table, app, unit) {
         return true;
     }
-    let group = scene.wishes.group(scene.table, app, unit);
+    let group = input.wishes.group(input.table, app, unit);
     groups[group.0 as usize] = true;
     false
 }
@@ -333,94 +338,94 @@ fn allowed_or_noted(scene: &Scene<'_>, app: AppNo, unit: UnitNo, groups: &mut [b
 // Whether the machine takes the unit and has room for it, and the limit of its group allows it. Where it would fit and is not allowed
 // its group is noted.
 fn may_place(
-    scene: &Scene<'_>,
+    input: &SearchInput<'_>,
     machine: MachineNo,
     free: &Res,
     app: AppNo,
     unit: UnitNo,
     groups: &mut [bool; 32],
 ) -> bool
-    requires level { AreLevel scene.now.wishes.now.cluster (job_at scene.now.wishes.now.cells) scene.now.table.now }
-    requires unit { unit.0 < length (get_or scene.now.wishes.now.cells app.0 []) }
-    requires machine { machine.0 < length scene.now.table.now.cluster.machines }
-    requires free { IsFree scene.now.table.now machine.0 free.now.q }
-    ensures fits { result ≡ true → (accepts_in (board_in scene.now) scene.now.table.now.entries app.0 unit.0 machine.0 && has_room_in scene.now.table.now.cluster (board_in scene.now).sizes scene.now.table.now.entries app.0 unit.0 machine.0) ≡ true }
-    ensures allowed { result ≡ true → is_allowed_in scene.now.table.now.cluster (board_in scene.now).groups (board_in scene.now).sizes scene.now.table.now.entries app.0 unit.0 ≡ true }
-    ensures bounded { result ≡ false → (bound : Option (List ℕ)) (t : ℕ) → IsBounded (board_in scene.now) scene.now.table.now.entries bound groups.new t (app.0, unit.0) machine.0 }
+    requires level { AreLevel input.now.wishes.now.cluster (job_at input.now.wishes.now.cells) input.now.table.now }
+    requires unit { unit.0 < length (get_or input.now.wishes.now.cells app.0 []) }
+    requires machine { machine.0 < length input.now.table.now.cluster.machines }
+    requires free { IsFree input.now.table.now machine.0 free.now.q }
+    ensures fits { result ≡ true → (accepts_in (board_in input.now) input.now.table.now.entries app.0 unit.0 machine.0 && has_room_in input.now.table.now.cluster (board_in input.now).sizes input.now.table.now.entries app.0 unit.0 machine.0) ≡ true }
+    ensures allowed { result ≡ true → is_allowed_in input.now.table.now.cluster (board_in input.now).groups (board_in input.now).sizes input.now.table.now.entries app.0 unit.0 ≡ true }
+    ensures bounded { result ≡ false → (bound : Option (List ℕ)) (t : ℕ) → IsBounded (board_in input.now) input.now.table.now.entries bound groups.new t (app.0, unit.0) machine.0 }
     ensures kept { (g : ℕ) → get_or groups.old g false ≡ true → get_or groups.new g false ≡ true }
     ensures same { result ≡ true → groups.new ≡ groups.old }
-    ensures passed { (accepts_in (board_in scene.now) scene.now.table.now.entries app.0 unit.0 machine.0 && has_room_in scene.now.table.now.cluster (board_in scene.now).sizes scene.now.table.now.entries app.0 unit.0 machine.0) ≡ false → groups.new ≡ groups.old }
+    ensures passed { (accepts_in (board_in input.now) input.now.table.now.entries app.0 unit.0 machine.0 && has_room_in input.now.table.now.cluster (board_in input.now).sizes input.now.table.now.entries app.0 unit.0 machine.0) ≡ false → groups.new ≡ groups.old }
 {
-    if !scene.wishes.takes(scene.table, free, app, unit, machine) {
+    if !input.wishes.takes(input.table, free, app, unit, machine) {
         return false;
     }
-    allowed_or_noted(scene, app, unit, groups)
+    allowed_or_noted(input, app, unit, groups)
 }
 
 // The rank of an admitted unit on the machine.
-fn rank_of_unit(scene: &Scene<'_>, app: AppNo, unit: UnitNo, machine: MachineNo) -> Rank
-    requires ready { CanSearch scene.now }
-    requires unit { unit.0 < length (get_or scene.now.wishes.now.cells app.0 []) }
-    requires machine { machine.0 < length scene.now.table.now.cluster.machines }
-    ensures { rank_of result ≡ rank_at (board_in scene.now) scene.now.table.now.entries (turn_in scene.now.turn_of.now (app.0, unit.0)) (app.0, unit.0) machine.0 }
+fn rank_of_unit(input: &SearchInput<'_>, app: AppNo, unit: UnitNo, machine: MachineNo) -> Rank
+    requires ready { CanSearch input.now }
+    requires unit { unit.0 < length (get_or input.now.wishes.now.cells app.0 []) }
+    requires machine { machine.0 < length input.now.table.now.cluster.machines }
+    ensures { rank_of result ≡ rank_at (board_in input.now) input.now.table.now.entries (turn_in input.now.turn_of.now (app.0, unit.0)) (app.0, unit.0) machine.0 }
 {
-    let wishes = scene.wishes;
+    let wishes = input.wishes;
     let late = 9_u8.saturating_sub(wishes.wish(app, unit).priority);
-    let level = wishes.level(scene.table, app, unit, machine);
-    let turn = turn_of_unit(wishes, scene.turn_of, app, unit);
+    let level = wishes.level(input.table, app, unit, machine);
+    let turn = turn_of_unit(wishes, input.turn_of, app, unit);
     Rank { late, level, turn }
 }
 
 // The better of what was found before and of one unit, where it may be placed. Where it would fit and is not allowed its group
 // is noted.
 fn weigh(
-    scene: &Scene<'_>,
+    input: &SearchInput<'_>,
     machine: MachineNo,
     free: &Res,
     app: AppNo,
     unit: UnitNo,
     groups: &mut [bool; 32],
-    best: &mut Option<Sight>,
+    best: &mut Option<Candidate>,
 )
-    requires ready { CanSearch scene.now }
-    requires unit { unit.0 < length (get_or scene.now.wishes.now.cells app.0 []) }
-    requires machine { machine.0 < length scene.now.table.now.cluster.machines }
-    requires free { IsFree scene.now.table.now machine.0 free.now.q }
-    ensures here { IsBounded (board_in scene.now) scene.now.table.now.entries (sight_rank best.new) groups.new (turn_in scene.now.turn_of.now (app.0, unit.0)) (app.0, unit.0) machine.0 }
-    ensures kept { (q : Pair) (t : ℕ) → IsBounded (board_in scene.now) scene.now.table.now.entries (sight_rank best.old) groups.old t q machine.0 → IsBounded (board_in scene.now) scene.now.table.now.entries (sight_rank best.new) groups.new t q machine.0 }
-    ensures sight { (line : List Pair) (place : ℕ) → slice_get line place ≡ Some (app.0, unit.0) → out_of (asks_in scene.now.wishes.now.cells) scene.now.table.now.entries app.0 unit.0 ≢ 0 → IfSome best.old (λ x. IsSight (board_in scene.now) scene.now.table.now.entries (turn_in scene.now.turn_of.now) line machine.0 x) → IfSome best.new (λ x. IsSight (board_in scene.now) scene.now.table.now.entries (turn_in scene.now.turn_of.now) line machine.0 x) }
+    requires ready { CanSearch input.now }
+    requires unit { unit.0 < length (get_or input.now.wishes.now.cells app.0 []) }
+    requires machine { machine.0 < length input.now.table.now.cluster.machines }
+    requires free { IsFree input.now.table.now machine.0 free.now.q }
+    ensures here { IsBounded (board_in input.now) input.now.table.now.entries (sight_rank best.new) groups.new (turn_in input.now.turn_of.now (app.0, unit.0)) (app.0, unit.0) machine.0 }
+    ensures kept { (q : Pair) (t : ℕ) → IsBounded (board_in input.now) input.now.table.now.entries (sight_rank best.old) groups.old t q machine.0 → IsBounded (board_in input.now) input.now.table.now.entries (sight_rank best.new) groups.new t q machine.0 }
+    ensures sight { (line : List Pair) (place : ℕ) → slice_get line place ≡ Some (app.0, unit.0) → out_of (asks_in input.now.wishes.now.cells) input.now.table.now.entries app.0 unit.0 ≢ 0 → IfSome best.old (λ x. IsSight (board_in input.now) input.now.table.now.entries (turn_in input.now.turn_of.now) line machine.0 x) → IfSome best.new (λ x. IsSight (board_in input.now) input.now.table.now.entries (turn_in input.now.turn_of.now) line machine.0 x) }
 {
-    if !scene.wishes.takes(scene.table, free, app, unit, machine) {
+    if !input.wishes.takes(input.table, free, app, unit, machine) {
         return;
     }
-    let rank = rank_of_unit(scene, app, unit, machine);
+    let rank = rank_of_unit(input, app, unit, machine);
     if !may_be_nearer(best, &rank) {
         return;
     }
-    if !allowed_or_noted(scene, app, unit, groups) {
+    if !allowed_or_noted(input, app, unit, groups) {
         return;
     }
-    *best = Some(Sight { rank, app, unit });
+    *best = Some(Candidate { rank, app, unit });
 }
 
 // The best placeable pair on one machine among those of the line from a place on.
 fn best_from(
-    scene: &Scene<'_>,
+    input: &SearchInput<'_>,
     machine: MachineNo,
     free: &Res,
     from: usize,
     groups: &mut [bool; 32],
-) -> Option<Sight>
-    requires ready { CanSearch scene.now }
-    requires machine { machine.0 < length scene.now.table.now.cluster.machines }
-    requires free { IsFree scene.now.table.now machine.0 free.now.q }
-    requires before { (k : ℕ) (p : Pair) → k < from → slice_get scene.now.line.now.pairs k ≡ Some p → IsBounded (board_in scene.now) scene.now.table.now.entries None groups.old (turn_in scene.now.turn_of.now p) p machine.0 }
-    ensures { IsBestOn scene.now machine.0 groups.new result }
+) -> Option<Candidate>
+    requires ready { CanSearch input.now }
+    requires machine { machine.0 < length input.now.table.now.cluster.machines }
+    requires free { IsFree input.now.table.now machine.0 free.now.q }
+    requires before { (k : ℕ) (p : Pair) → k < from → slice_get input.now.line.now.pairs k ≡ Some p → IsBounded (board_in input.now) input.now.table.now.entries None groups.old (turn_in input.now.turn_of.now p) p machine.0 }
+    ensures { IsBestOn input.now machine.0 groups.new result }
 {
     let mut best = None;
-    for place in from..scene.line.len() {
-        let (app, unit) = scene.line.at(place);
-        weigh(scene, machine, free, app, unit, groups, &mut best);
+    for place in from..input.line.len() {
+        let (app, unit) = input.line.at(place);
+        weigh(input, machine, free, app, unit, groups, &mut best);
     }
     best
 }
@@ -428,20 +433,20 @@ fn best_from(
 // The best placeable pair on one machine: the first of its path that may be placed there, since the path has the pairs of the line
 // in the order of ranks. Of those before it that would fit and are not allowed the groups are noted.
 fn best_on(
-    scene: &Scene<'_>,
+    input: &SearchInput<'_>,
     machine: MachineNo,
     free: &Res,
     groups: &mut [bool; 32],
-) -> Option<Sight>
-    requires ready { CanSearch scene.now }
-    requires machine { machine.0 < length scene.now.table.now.cluster.machines }
-    requires free { IsFree scene.now.table.now machine.0 free.now.q }
-    ensures bounded { (q : Pair) → has_pair q scene.now.line.now.pairs ≡ true → IsBounded (board_in scene.now) scene.now.table.now.entries (sight_rank result) groups.new (turn_in scene.now.turn_of.now q) q machine.0 }
-    ensures sight { IfSome result (λ x. IsSight (board_in scene.now) scene.now.table.now.entries (turn_in scene.now.turn_of.now) scene.now.line.now.pairs machine.0 x) }
+) -> Option<Candidate>
+    requires ready { CanSearch input.now }
+    requires machine { machine.0 < length input.now.table.now.cluster.machines }
+    requires free { IsFree input.now.table.now machine.0 free.now.q }
+    ensures bounded { (q : Pair) → has_pair q input.now.line.now.pairs ≡ true → IsBounded (board_in input.now) input.now.table.now.entries (sight_rank result) groups.new (turn_in input.now.turn_of.now q) q machine.0 }
+    ensures sight { IfSome result (λ x. IsSight (board_in input.now) input.now.table.now.entries (turn_in input.now.turn_of.now) input.now.line.now.pairs machine.0 x) }
 {
-    let _table = scene.table.cluster();
-    let mut path = scene.tree.path(machine);
-    let mut left = scene.line.len();
+    input.table.is_sound();
+    let mut path = input.tree.path(machine);
+    let mut left = input.line.len();
     while left > 0 {
         left -= 1;
         let Some((entry, level)) = path.next() else {
@@ -449,35 +454,40 @@ fn best_on(
         };
         let app = entry.app;
         let unit = entry.unit;
-        if !may_place(scene, machine, free, app, unit, groups) {
+        if !may_place(input, machine, free, app, unit, groups) {
             continue;
         }
         let late = 9_u8.saturating_sub(entry.priority);
-        let turn = turn_of_unit(scene.wishes, scene.turn_of, app, unit);
+        let turn = turn_of_unit(input.wishes, input.turn_of, app, unit);
         let rank = Rank { late, level, turn };
-        return Some(Sight { rank, app, unit });
+        return Some(Candidate { rank, app, unit });
     }
     None
 }
 
 // The best placeable pair on one machine: of all pairs of the line, and where none that was looked at is placeable, of the others.
-fn see(scene: &Scene<'_>, machine: MachineNo, free: &Res, mark: &mut Mark) -> Option<Sight>
-    requires ready { CanSearch scene.now }
-    requires machine { machine.0 < length scene.now.table.now.cluster.machines }
-    requires free { IsFree scene.now.table.now machine.0 free.now.q }
-    requires old { AreBounded (board_in scene.now) scene.now.table.now.entries (turn_in scene.now.turn_of.now) scene.now.line.now.pairs (mark_of mark.old) machine.0 }
-    ensures { IsBestOn scene.now machine.0 mark.new.groups result }
+fn see(
+    input: &SearchInput<'_>,
+    machine: MachineNo,
+    free: &Res,
+    mark: &mut Mark,
+) -> Option<Candidate>
+    requires ready { CanSearch input.now }
+    requires machine { machine.0 < length input.now.table.now.cluster.machines }
+    requires free { IsFree input.now.table.now machine.0 free.now.q }
+    requires old { AreBounded (board_in input.now) input.now.table.now.entries (turn_in input.now.turn_of.now) input.now.line.now.pairs (mark_of mark.old) machine.0 }
+    ensures { IsBestOn input.now machine.0 mark.new.groups result }
 {
     if mark.bound.is_none() {
-        let from = place_from(scene, mark.until);
-        return best_from(scene, machine, free, from, &mut mark.groups);
+        let from = place_from(input, mark.until);
+        return best_from(input, machine, free, from, &mut mark.groups);
     }
     mark.groups = [false; 32];
-    best_on(scene, machine, free, &mut mark.groups)
+    best_on(input, machine, free, &mut mark.groups)
 }
 
 // The rank of what is seen.
-fn rank_in(best: &Option<Sight>) -> Option<Rank>
+fn rank_in(best: &Option<Candidate>) -> Option<Rank>
     ensures { option_map rank_of result ≡ sight_rank best.now }
 {
     match best {
@@ -489,34 +499,34 @@ fn rank_in(best: &Option<Sight>) -> Option<Rank>
 // Looks at one machine, which is a step. Its mark is exact then. A machine that has room for no unit is told without a look at any pair,
 // and needs none when others begin to wait.
 fn look<L: Ledger>(
-    scene: &Scene<'_>,
+    input: &SearchInput<'_>,
     machine: MachineNo,
     mark: &mut Mark,
     steps: &mut Steps<L>,
-) -> Option<Sight>
-    requires ready { CanSearch scene.now }
-    requires machine { machine.0 < length scene.now.table.now.cluster.machines }
-    requires old { AreBounded (board_in scene.now) scene.now.table.now.entries (turn_in scene.now.turn_of.now) scene.now.line.now.pairs (mark_of mark.old) machine.0 }
-    ensures best { IsBestOn scene.now machine.0 mark.new.groups result }
+) -> Option<Candidate>
+    requires ready { CanSearch input.now }
+    requires machine { machine.0 < length input.now.table.now.cluster.machines }
+    requires old { AreBounded (board_in input.now) input.now.table.now.entries (turn_in input.now.turn_of.now) input.now.line.now.pairs (mark_of mark.old) machine.0 }
+    ensures best { IsBestOn input.now machine.0 mark.new.groups result }
     ensures bound { option_map rank_of mark.new.bound ≡ sight_rank result }
-    ensures until { scene.now.turns ≤ mark.new.until }
-    ensures later { AreBoundedLater (board_in scene.now) scene.now.table.now.entries scene.now.wishes.now.cells scene.now.turns (mark_of mark.new) machine.0 }
+    ensures until { input.now.turns ≤ mark.new.until }
+    ensures later { AreBoundedLater (board_in input.now) input.now.table.now.entries input.now.wishes.now.cells input.now.turns (mark_of mark.new) machine.0 }
     ensures step { steps.new ≡ steps.old + 1 }
 {
-    let free = scene.table.free(machine, steps);
-    if scene.wishes.is_full(scene.table, &free) {
+    let free = input.table.free(machine, steps);
+    if input.wishes.is_full(input.table, &free) {
         mark.fill();
-        turn_fits(scene.turns);
+        turn_fits(input.turns);
         return None;
     }
-    let best = see(scene, machine, &free, mark);
+    let best = see(input, machine, &free, mark);
     mark.bound = rank_in(&best);
-    mark.until = scene.turns;
+    mark.until = input.turns;
     best
 }
 
 // Whether a pair on this machine may come before the best so far.
-fn may_be_first(best: &Option<Found>, key: &Rank, machine: MachineNo) -> bool
+fn may_be_first(best: &Option<BestFound>, key: &Rank, machine: MachineNo) -> bool
     ensures { result ≡ is_first best.now (rank_of key.now) machine.0 }
 {
     match best {
@@ -526,7 +536,7 @@ fn may_be_first(best: &Option<Found>, key: &Rank, machine: MachineNo) -> bool
 }
 
 // The better one.
-fn better(best: &mut Option<Found>, found: Found)
+fn better(best: &mut Option<BestFound>, found: BestFound)
     ensures kept { (r : List ℕ) → is_bound (found_rank best.old) r ≡ true → is_bound (found_rank best.new) r ≡ true }
     ensures itself { (r : List ℕ) → is_bound (Some (rank_with found)) r ≡ true → is_bound (found_rank best.new) r ≡ true }
     ensures some { is_none best.new ≡ false }
@@ -539,17 +549,22 @@ fn better(best: &mut Option<Found>, found: Found)
 
 // Whether a machine is passed without a look: it is closed, nothing is placeable there, or by its bound no pair there comes before the
 // best so far.
-fn is_passed(scene: &Scene<'_>, machine: MachineNo, mark: &Mark, best: &Option<Found>) -> bool
-    requires ready { CanSearch scene.now }
-    requires old { IsMarked scene.now machine.0 (mark_of mark.now) }
-    ensures least { result ≡ true → IsLeastOn scene.now best.now machine.0 }
-    ensures settled { result ≡ true → best.now ≡ None → IsSettledBy scene.now machine.0 (mark_of mark.now) }
-    ensures unsettled { result ≡ false → is_unsettled_by scene.now.wishes.now.opened (mark_of mark.now) scene.now.turns machine.0 ≡ true }
+fn is_passed(
+    input: &SearchInput<'_>,
+    machine: MachineNo,
+    mark: &Mark,
+    best: &Option<BestFound>,
+) -> bool
+    requires ready { CanSearch input.now }
+    requires old { IsMarked input.now machine.0 (mark_of mark.now) }
+    ensures least { result ≡ true → IsLeastOn input.now best.now machine.0 }
+    ensures settled { result ≡ true → best.now ≡ None → IsSettledBy input.now machine.0 (mark_of mark.now) }
+    ensures unsettled { result ≡ false → is_unsettled_by input.now.wishes.now.opened (mark_of mark.now) input.now.turns machine.0 ≡ true }
 {
-    if !scene.wishes.is_open(machine) {
+    if !input.wishes.is_open(machine) {
         return true;
     }
-    let Some(key) = mark.key(scene.turns) else {
+    let Some(key) = mark.key(input.turns) else {
         return true;
     };
     !may_be_first(best, &key, machine)
@@ -557,24 +572,24 @@ fn is_passed(scene: &Scene<'_>, machine: MachineNo, mark: &Mark, best: &Option<F
 
 /// The best of what was found before and of what is placeable on one machine, which is looked at.
 pub(crate) fn consider<L: Ledger>(
-    scene: &Scene<'_>,
+    input: &SearchInput<'_>,
     machine: MachineNo,
     mark: &mut Mark,
     steps: &mut Steps<L>,
-    best: &mut Option<Found>,
+    best: &mut Option<BestFound>,
 )
-    requires ready { CanSearch scene.now }
-    requires machine { machine.0 < length scene.now.table.now.cluster.machines }
-    requires old { IsMarked scene.now machine.0 (mark_of mark.old) }
-    ensures mark { IsMarked scene.now machine.0 (mark_of mark.new) }
-    ensures least { IsLeastOn scene.now best.new machine.0 }
+    requires ready { CanSearch input.now }
+    requires machine { machine.0 < length input.now.table.now.cluster.machines }
+    requires old { IsMarked input.now machine.0 (mark_of mark.old) }
+    ensures mark { IsMarked input.now machine.0 (mark_of mark.new) }
+    ensures least { IsLeastOn input.now best.new machine.0 }
     ensures kept { (r : List ℕ) → is_bound (found_rank best.old) r ≡ true → is_bound (found_rank best.new) r ≡ true }
-    ensures found { IfSome best.old (λ x. IsFoundIn scene.now x) → IfSome best.new (λ x. IsFoundIn scene.now x) }
+    ensures found { IfSome best.old (λ x. IsFoundIn input.now x) → IfSome best.new (λ x. IsFoundIn input.now x) }
     ensures step { steps.new ≡ steps.old + 1 }
-    ensures settled { best.new ≡ None → IsSettledBy scene.now machine.0 (mark_of mark.new) }
+    ensures settled { best.new ≡ None → IsSettledBy input.now machine.0 (mark_of mark.new) }
     ensures empty { best.new ≡ None → best.old ≡ None }
 {
-    match look(scene, machine, mark, steps) {
+    match look(input, machine, mark, steps) {
         Some(sight) => {
             let pick = Pick {
                 app: sight.app,
@@ -583,7 +598,7 @@ pub(crate) fn consider<L: Ledger>(
             };
             better(
                 best,
-                Found {
+                BestFound {
                     rank: sight.rank,
                     pick,
                 },
@@ -595,34 +610,34 @@ pub(crate) fn consider<L: Ledger>(
 
 // The same of a machine by its number, which is looked at only where it may be first.
 fn consider_at<L: Ledger>(
-    scene: &Scene<'_>,
+    input: &SearchInput<'_>,
     machine: MachineNo,
     marks: &mut Marks,
     steps: &mut Steps<L>,
-    best: &mut Option<Found>,
+    best: &mut Option<BestFound>,
 )
-    requires ready { CanSearch scene.now }
-    requires machine { machine.0 < length scene.now.table.now.cluster.machines }
-    requires marked { length marks.old ≡ length scene.now.table.now.cluster.machines }
-    requires old { AreMarked scene.now marks.old }
+    requires ready { CanSearch input.now }
+    requires machine { machine.0 < length input.now.table.now.cluster.machines }
+    requires marked { length marks.old ≡ length input.now.table.now.cluster.machines }
+    requires old { AreMarked input.now marks.old }
     ensures marked { length marks.new ≡ length marks.old }
-    ensures marks { AreMarked scene.now marks.new }
-    ensures least { IsLeastOn scene.now best.new machine.0 }
+    ensures marks { AreMarked input.now marks.new }
+    ensures least { IsLeastOn input.now best.new machine.0 }
     ensures kept { (r : List ℕ) → is_bound (found_rank best.old) r ≡ true → is_bound (found_rank best.new) r ≡ true }
-    ensures found { IfSome best.old (λ x. IsFoundIn scene.now x) → IfSome best.new (λ x. IsFoundIn scene.now x) }
+    ensures found { IfSome best.old (λ x. IsFoundIn input.now x) → IfSome best.new (λ x. IsFoundIn input.now x) }
     ensures others { (m : ℕ) → nat_eq machine.0 m ≡ false → mark_at marks.new m ≡ mark_at marks.old m }
-    ensures count { steps.new ≤ steps.old + cond (is_unsettled_by scene.now.wishes.now.opened (mark_at marks.old machine.0) scene.now.turns machine.0) 1 0 }
-    ensures settled { best.new ≡ None → IsSettledBy scene.now machine.0 (mark_at marks.new machine.0) }
+    ensures count { steps.new ≤ steps.old + cond (is_unsettled_by input.now.wishes.now.opened (mark_at marks.old machine.0) input.now.turns machine.0) 1 0 }
+    ensures settled { best.new ≡ None → IsSettledBy input.now machine.0 (mark_at marks.new machine.0) }
     ensures empty { best.new ≡ None → best.old ≡ None }
 {
-    if is_passed(scene, machine, marks.at(machine.0), best) {
+    if is_passed(input, machine, marks.at(machine.0), best) {
         return;
     }
-    marks.consider(scene, machine, steps, best);
+    marks.consider(input, machine, steps, best);
 }
 
 // The number of the best so far.
-fn number_of_best(best: &Option<Found>) -> u128
+fn number_of_best(best: &Option<BestFound>) -> u128
     ensures { result ≡ limit_in best.now }
 {
     match best {
@@ -633,7 +648,13 @@ fn number_of_best(best: &Option<Found>) -> u128
 
 // The first other machine from one on where a pair may come before the best so far. Those before it are passed without a look at
 // their marks.
-fn next_other(marks: &Marks, start: MachineNo, from: u32, turns: u64, best: &Option<Found>) -> u32
+fn next_other(
+    marks: &Marks,
+    start: MachineNo,
+    from: u32,
+    turns: u64,
+    best: &Option<BestFound>,
+) -> u32
     requires { from ≤ length marks.now }
     ensures least { from ≤ result }
     ensures inside { result ≤ length marks.now }
@@ -650,7 +671,7 @@ fn next_other(marks: &Marks, start: MachineNo, from: u32, turns: u64, best: &Opt
 }
 
 // Whether a rank that bounds all pairs does not come before the best so far on this machine, and so on none behind it.
-fn is_later(earliest: &Option<Rank>, machine: u32, best: &Option<Found>) -> bool
+fn is_later(earliest: &Option<Rank>, machine: u32, best: &Option<BestFound>) -> bool
     ensures small { IfSome earliest.now (λ x. IsSmall x) }
     ensures later { result ≡ true → IsSomeAnd earliest.now (λ x. limit_in best.now ≤ packed x machine) }
 {
@@ -662,22 +683,22 @@ fn is_later(earliest: &Option<Rank>, machine: u32, best: &Option<Found>) -> bool
 
 // By such a rank the machines from this one on need no look, and their marks say so.
 fn pass_from(
-    scene: &Scene<'_>,
+    input: &SearchInput<'_>,
     earliest: Option<Rank>,
     from: u32,
     marks: &mut Marks,
-    best: &Option<Found>,
+    best: &Option<BestFound>,
 )
-    requires earliest { IfSome earliest (λ rank. IsEarliest scene.now rank) }
+    requires earliest { IfSome earliest (λ rank. IsEarliest input.now rank) }
     requires small { IfSome earliest (λ x. IsSmall x) }
     requires later { IsSomeAnd earliest (λ x. limit_in best.now ≤ packed x from) }
     requires inside { from ≤ length marks.old }
-    requires old { AreMarked scene.now marks.old }
+    requires old { AreMarked input.now marks.old }
     ensures marked { length marks.new ≡ length marks.old }
-    ensures marks { AreMarked scene.now marks.new }
-    ensures passed { (m : ℕ) → from ≤ m → m < length marks.old → is_some (key_of (mark_at marks.new m) scene.now.turns) ≡ true → IsAbove (mark_at marks.new m) scene.now.turns m (limit_in best.now) }
+    ensures marks { AreMarked input.now marks.new }
+    ensures passed { (m : ℕ) → from ≤ m → m < length marks.old → is_some (key_of (mark_at marks.new m) input.now.turns) ≡ true → IsAbove (mark_at marks.new m) input.now.turns m (limit_in best.now) }
 {
-    marks.bound_from(from, number_of_best(best), earliest, scene.turns);
+    marks.bound_from(from, number_of_best(best), earliest, input.turns);
 }
 
 // The number of the least bound so far.
@@ -746,41 +767,41 @@ fn least_machine(wishes: &Wishes, marks: &Marks, turns: u64) -> Option<Least>
 // The best of what was found on the machine that was considered first and of what is placeable on the others, in the order
 // of machines.
 fn best_of_others<L: Ledger>(
-    scene: &Scene<'_>,
+    input: &SearchInput<'_>,
     start: MachineNo,
     marks: &mut Marks,
     steps: &mut Steps<L>,
-    best: &mut Option<Found>,
+    best: &mut Option<BestFound>,
 )
-    requires ready { CanSearch scene.now }
-    requires marked { length marks.old ≡ length scene.now.table.now.cluster.machines }
-    requires old { AreMarked scene.now marks.old }
-    requires seen { IsLeastOn scene.now best.old start.0 }
-    requires settled { best.old ≡ None → IsSettledBy scene.now start.0 (mark_at marks.old start.0) }
+    requires ready { CanSearch input.now }
+    requires marked { length marks.old ≡ length input.now.table.now.cluster.machines }
+    requires old { AreMarked input.now marks.old }
+    requires seen { IsLeastOn input.now best.old start.0 }
+    requires settled { best.old ≡ None → IsSettledBy input.now start.0 (mark_at marks.old start.0) }
     ensures marked { length marks.new ≡ length marks.old }
-    ensures marks { AreMarked scene.now marks.new }
-    ensures least { (m : ℕ) → m < length scene.now.table.now.cluster.machines → IsLeastOn scene.now best.new m }
-    ensures found { IfSome best.old (λ x. IsFoundIn scene.now x) → IfSome best.new (λ x. IsFoundIn scene.now x) }
-    ensures count { steps.new ≤ steps.old + count_below (λ m. not (nat_eq m start.0) && is_unsettled_by scene.now.wishes.now.opened (mark_at marks.old m) scene.now.turns m) (length scene.now.table.now.cluster.machines) }
-    ensures settled { best.new ≡ None → (m : ℕ) → m < length scene.now.table.now.cluster.machines → IsSettledBy scene.now m (mark_at marks.new m) }
+    ensures marks { AreMarked input.now marks.new }
+    ensures least { (m : ℕ) → m < length input.now.table.now.cluster.machines → IsLeastOn input.now best.new m }
+    ensures found { IfSome best.old (λ x. IsFoundIn input.now x) → IfSome best.new (λ x. IsFoundIn input.now x) }
+    ensures count { steps.new ≤ steps.old + count_below (λ m. not (nat_eq m start.0) && is_unsettled_by input.now.wishes.now.opened (mark_at marks.old m) input.now.turns m) (length input.now.table.now.cluster.machines) }
+    ensures settled { best.new ≡ None → (m : ℕ) → m < length input.now.table.now.cluster.machines → IsSettledBy input.now m (mark_at marks.new m) }
 {
-    let mut at = next_other(marks, start, 0, scene.turns, best);
+    let mut at = next_other(marks, start, 0, input.turns, best);
     if at >= marks.len() {
         return;
     }
-    let earliest = earliest(scene);
+    let earliest = earliest(input);
     while at < marks.len() {
         if is_later(&earliest, at, best) {
-            pass_from(scene, earliest, at, marks, best);
+            pass_from(input, earliest, at, marks, best);
             return;
         }
-        consider_at(scene, MachineNo(at), marks, steps, best);
-        at = next_other(marks, start, at + 1, scene.turns, best);
+        consider_at(input, MachineNo(at), marks, steps, best);
+        at = next_other(marks, start, at + 1, input.turns, best);
     }
 }
 
 // Whether what was found has a rank that is no later than the least bound, so that no other machine comes before it.
-fn is_decided(best: &Option<Found>, least: &Least) -> bool
+fn is_decided(best: &Option<BestFound>, least: &Least) -> bool
     ensures { result ≡ true → IsSomeAnd best.now (λ x. packed x.rank x.pick.machine.0 ≤ least.now.key) }
 {
     match best {
@@ -792,30 +813,30 @@ fn is_decided(best: &Option<Found>, least: &Least) -> bool
 // The best placeable pair on all machines, where this one has the least bound: it is considered first, and where it has a pair with
 // that bound the others are not.
 fn best_from_least<L: Ledger>(
-    scene: &Scene<'_>,
+    input: &SearchInput<'_>,
     least: Least,
     marks: &mut Marks,
     steps: &mut Steps<L>,
-) -> Option<Found>
-    requires ready { CanSearch scene.now }
-    requires marked { length marks.old ≡ length scene.now.table.now.cluster.machines }
-    requires old { AreMarked scene.now marks.old }
-    requires there { least.machine.0 < length scene.now.table.now.cluster.machines }
-    requires behind { AreBehind scene.now.wishes.now.opened marks.old scene.now.turns (length scene.now.table.now.cluster.machines) (Some least) }
+) -> Option<BestFound>
+    requires ready { CanSearch input.now }
+    requires marked { length marks.old ≡ length input.now.table.now.cluster.machines }
+    requires old { AreMarked input.now marks.old }
+    requires there { least.machine.0 < length input.now.table.now.cluster.machines }
+    requires behind { AreBehind input.now.wishes.now.opened marks.old input.now.turns (length input.now.table.now.cluster.machines) (Some least) }
     ensures marked { length marks.new ≡ length marks.old }
-    ensures marks { AreMarked scene.now marks.new }
-    ensures least { (m : ℕ) → m < length scene.now.table.now.cluster.machines → IsLeastOn scene.now result m }
-    ensures found { IfSome result (λ x. IsFoundIn scene.now x) }
-    ensures count { steps.new ≤ steps.old + count_below (λ m. is_unsettled_by scene.now.wishes.now.opened (mark_at marks.old m) scene.now.turns m) (length scene.now.table.now.cluster.machines) }
-    ensures settled { result ≡ None → (m : ℕ) → m < length scene.now.table.now.cluster.machines → IsSettledBy scene.now m (mark_at marks.new m) }
+    ensures marks { AreMarked input.now marks.new }
+    ensures least { (m : ℕ) → m < length input.now.table.now.cluster.machines → IsLeastOn input.now result m }
+    ensures found { IfSome result (λ x. IsFoundIn input.now x) }
+    ensures count { steps.new ≤ steps.old + count_below (λ m. is_unsettled_by input.now.wishes.now.opened (mark_at marks.old m) input.now.turns m) (length input.now.table.now.cluster.machines) }
+    ensures settled { result ≡ None → (m : ℕ) → m < length input.now.table.now.cluster.machines → IsSettledBy input.now m (mark_at marks.new m) }
 {
     let _machines = marks.len();
     let mut best = None;
-    consider_at(scene, least.machine, marks, steps, &mut best);
+    consider_at(input, least.machine, marks, steps, &mut best);
     if is_decided(&best, &least) {
         return best;
     }
-    best_of_others(scene, least.machine, marks, steps, &mut best);
+    best_of_others(input, least.machine, marks, steps, &mut best);
     best
 }
 
@@ -856,7 +877,7 @@ pub(crate) fn first<L: Ledger>(
     let Some(least) = least_machine(wishes, marks, turns) else {
         return None;
     };
-    let scene = Scene {
+    let input = SearchInput {
         wishes,
         line,
         tree,
@@ -864,7 +885,7 @@ pub(crate) fn first<L: Ledger>(
         turns,
         table,
     };
-    match best_from_least(&scene, least, marks, steps) {
+    match best_from_least(&input, least, marks, steps) {
         Some(found) => Some(found.pick),
         None => None,
     }

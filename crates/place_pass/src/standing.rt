@@ -1,4 +1,4 @@
-//! The tree of the waiting pairs: who waits in it, and where they stand. No call takes memory.
+//! The tree of the waiting pairs: who waits in it, and in which queues. No call takes memory.
 
 ghost use Rattle.std.specs.Prelude.{◌≡◌, ℕ, ◌<◌, ◌≤◌, ◌||◌, nat_lt, nat_eq, [], Some, true, false, length, take};
 ghost use Rattle.std.proofs.Common.{get_or};
@@ -6,7 +6,7 @@ ghost use Rattle.fuxi_terms.specs.Cluster.{rack_of};
 ghost use Rattle.fuxi_terms.specs.Jobs.{unit_count};
 ghost use Rattle.fuxi_terms.specs.Tables.{spot};
 ghost use Rattle.fuxi_terms.specs.Keys.{Pair};
-ghost use Rattle.written_roles.specs.Placing.{has_pair};
+ghost use Rattle.spec_roles.specs.Placing.{has_pair};
 ghost use Rattle.grant_table.specs.GrantTables.{TableRecord, as_known};
 ghost use Rattle.locality_tree.specs.Trees.{unit_at, unit_number, rack_place, cluster_place, with_stand};
 ghost use Rattle.place_pass.specs.Best.{AreAdmitted};
@@ -85,7 +85,7 @@ pub(crate) fn entry_for(wishes: &Wishes, turn_of: &Vec<u64>, app: AppNo, unit: U
     }
 }
 
-// Whether a unit asks for a machine or stands there.
+// Whether a unit asks for a machine or stands in its queue.
 fn asks_or_stands_on(tree: &Tree, entry: &Entry, wish: &Wish, machine: MachineNo) -> bool
     requires waits { (unit_at tree.now entry.now.app.0 entry.now.unit.0).entry ≡ Some entry.now }
     requires machine { machine.0 < length tree.now.racks }
@@ -98,7 +98,7 @@ fn asks_or_stands_on(tree: &Tree, entry: &Entry, wish: &Wish, machine: MachineNo
     tree.stands_on(entry, machine)
 }
 
-// Whether a unit asks for a rack or stands there.
+// Whether a unit asks for a rack or stands in its queue.
 fn asks_or_stands_within(tree: &Tree, entry: &Entry, wish: &Wish, rack: RackNo) -> bool
     requires waits { (unit_at tree.now entry.now.app.0 entry.now.unit.0).entry ≡ Some entry.now }
     requires rack { rack.0 < 64 }
@@ -110,7 +110,7 @@ fn asks_or_stands_within(tree: &Tree, entry: &Entry, wish: &Wish, rack: RackNo) 
     tree.stands_within(entry, rack)
 }
 
-// A unit that waits stands on a machine exactly where something of it is unmet there. Mostly it stands as it has to.
+// A unit that waits stands in a machine's queue exactly where something of it is unmet there. Mostly it stands as it has to.
 fn turn_on(tree: &mut Tree, entry: &Entry, machine: MachineNo, unmet: bool)
     requires waits { (unit_at tree.old entry.now.app.0 entry.now.unit.0).entry ≡ Some entry.now }
     requires machine { machine.0 < length tree.old.racks }
@@ -134,7 +134,7 @@ fn turn_within(tree: &mut Tree, entry: &Entry, rack: RackNo, unmet: bool)
     tree.mark_rack(entry, rack, unmet);
 }
 
-// A unit that waits and does not stand on a machine comes to stand there where something of it is unmet.
+// A unit that waits and does not stand in a machine's queue enters it where something of it is unmet there.
 fn enter_on(tree: &mut Tree, entry: &Entry, machine: MachineNo, unmet: bool)
     requires waits { (unit_at tree.old entry.now.app.0 entry.now.unit.0).entry ≡ Some entry.now }
     requires machine { machine.0 < length tree.old.racks }
@@ -160,8 +160,8 @@ fn enter_within(tree: &mut Tree, entry: &Entry, rack: RackNo, unmet: bool)
     tree.mark_rack(entry, rack, true);
 }
 
-// A unit that waits stands on the machines on which it asks for more than it has: only those for which it asks, and those on which it
-// stands, need a look.
+// A unit that waits stands in the queues of the machines on which it asks for more than it has: only those for which it asks, and those in
+// whose queues it stands, need a look.
 fn mark_machines(tree: &mut Tree, entry: &Entry, wishes: &Wishes, table: &GrantTable)
     requires cluster { wishes.now.cluster ≡ table.now.cluster }
     requires here { entry.now.unit.0 < length (get_or wishes.now.cells entry.now.app.0 []) }
@@ -182,8 +182,8 @@ fn mark_machines(tree: &mut Tree, entry: &Entry, wishes: &Wishes, table: &GrantT
     }
 }
 
-// A unit that waits stands in the racks in which it asks for more than it has: only those for which it asks, and those in which it stands,
-// need a look.
+// A unit that waits stands in the queues of the racks in which it asks for more than it has: only those for which it asks, and those in
+// whose queues it stands, need a look.
 fn mark_racks(tree: &mut Tree, entry: &Entry, wishes: &Wishes, table: &GrantTable)
     requires cluster { wishes.now.cluster ≡ table.now.cluster }
     requires here { entry.now.unit.0 < length (get_or wishes.now.cells entry.now.app.0 []) }
@@ -204,7 +204,7 @@ fn mark_racks(tree: &mut Tree, entry: &Entry, wishes: &Wishes, table: &GrantTabl
     }
 }
 
-// A unit that waits stands where it asks for more than it has.
+// A unit that waits stands in the queues where it asks for more than it has.
 fn mark_unit(tree: &mut Tree, entry: &Entry, wishes: &Wishes, table: &GrantTable)
     requires cluster { wishes.now.cluster ≡ table.now.cluster }
     requires here { entry.now.unit.0 < length (get_or wishes.now.cells entry.now.app.0 []) }
@@ -217,7 +217,7 @@ fn mark_unit(tree: &mut Tree, entry: &Entry, wishes: &Wishes, table: &GrantTable
     mark_racks(tree, entry, wishes, table);
 }
 
-// A unit that begins to wait comes to stand on the machines on which it asks for more than it has. It stands on none of them yet, so
+// A unit that begins to wait enters the queues of the machines on which it asks for more than it has. It stands in none of them yet, so
 // only those for which it asks need a look.
 fn enter_machines(tree: &mut Tree, entry: &Entry, wishes: &Wishes, table: &GrantTable)
     requires cluster { wishes.now.cluster ≡ table.now.cluster }
@@ -261,7 +261,7 @@ fn enter_racks(tree: &mut Tree, entry: &Entry, wishes: &Wishes, table: &GrantTab
     }
 }
 
-// A unit that begins to wait comes to stand where it asks for more than it has. It stands nowhere yet.
+// A unit that begins to wait enters the queues where it asks for more than it has. It stands in none of them yet.
 fn enter_unit(tree: &mut Tree, entry: &Entry, wishes: &Wishes, table: &GrantTable)
     requires cluster { wishes.now.cluster ≡ table.now.cluster }
     requires here { entry.now.unit.0 < length (get_or wishes.now.cells entry.now.app.0 []) }
@@ -275,7 +275,7 @@ fn enter_unit(tree: &mut Tree, entry: &Entry, wishes: &Wishes, table: &GrantTabl
     enter_racks(tree, entry, wishes, table);
 }
 
-// A unit that waits stands on one machine and in its rack where it asks for more there than it has.
+// A unit that waits stands in the queues of one machine and of its rack where it asks for more there than it has.
 fn mark_spot(
     tree: &mut Tree,
     entry: &Entry,
@@ -298,7 +298,7 @@ fn mark_spot(
     turn_within(tree, entry, rack, in_rack);
 }
 
-/// Told that a unit has another number on a machine: where it waits it stands on the machine and in its rack where it asks
+/// Told that a unit has another number on a machine: where it waits it stands in the queues of the machine and of its rack where it asks
 /// for more there.
 pub(crate) fn tell_spot(
     tree: &mut Tree,
@@ -320,8 +320,8 @@ pub(crate) fn tell_spot(
     ensures stands { (before : TableRecord) → IsSetFrom before table.now (spot app.0 unit.0 machine.0) → AllStand wishes.now.cluster wishes.now.cells before.entries line.now.pairs tree.old
         → AllStand wishes.now.cluster wishes.now.cells table.now.entries line.now.pairs tree.new }
 {
-    let _table = table.cluster();
-    let _wishes = wishes.cluster();
+    table.is_sound();
+    wishes.are_sound();
     if !line.has(app.0, unit.0) {
         return;
     }
@@ -349,7 +349,7 @@ pub(crate) fn tell_asked(
         → ((u : ℕ) → has_pair (app.0, u) line.now.pairs ≡ true → get_or differing.now u true ≡ false → StandsAs wishes.now.cluster wishes.now.cells table.now.entries app.0 u tree.old)
         → AllStand wishes.now.cluster wishes.now.cells table.now.entries line.now.pairs tree.new }
 {
-    let _wishes = wishes.cluster();
+    wishes.are_sound();
     for number in 0..wishes.units(app) as u8 {
         if number as usize >= table.units(app) {
             return;
@@ -384,7 +384,7 @@ pub(crate) fn enter_line(
     ensures holds { HoldsLine wishes.now.cluster wishes.now.cells line.now.pairs turn_of.now.items tree.new }
     ensures stands { AllStand wishes.now.cluster wishes.now.cells table.now.entries line.now.pairs tree.new }
 {
-    let _wishes = wishes.cluster();
+    wishes.are_sound();
     for place in from..line.len() {
         let (app, unit) = line.at(place);
         let entry = entry_for(wishes, turn_of, app, unit);

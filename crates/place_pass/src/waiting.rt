@@ -8,13 +8,13 @@ ghost use Rattle.fuxi_terms.specs.Jobs.{unit_count};
 ghost use Rattle.fuxi_terms.specs.Keys.{Pair};
 ghost use Rattle.fuxi_terms.specs.Limits.{most_jobs, most_units};
 ghost use Rattle.fuxi_terms.specs.Tables.{Table};
-ghost use Rattle.written_roles.specs.Masters.{out_of};
-ghost use Rattle.written_roles.specs.Placing.{has_pair, waiting_in};
+ghost use Rattle.spec_roles.specs.Masters.{out_of};
+ghost use Rattle.spec_roles.specs.Placing.{has_pair, waiting_in};
 ghost use Rattle.grant_table.specs.GrantTables.{as_known, AreJobs};
 ghost use Rattle.place_pass.specs.Cells.{asks_in, job_at, unit_places};
 ghost use Rattle.place_pass.specs.Placers.{AreLevel, IsStill};
 ghost use Rattle.place_pass.specs.Best.{AreAdmitted};
-ghost use Rattle.place_pass.specs.WaitingLines.{units_in_all, waiting_of};
+ghost use Rattle.place_pass.specs.WaitingLines.{AllMayWait, AreSameUnits, waiting_of};
 ghost use Rattle.place_pass.specs.Bounds.{IsRising, turn_at};
 ghost use Rattle.place_pass.specs.PlacerTrees.{HoldsLine, AllStand};
 
@@ -27,18 +27,16 @@ use grant_table::GrantTable;
 use locality_tree::Tree;
 use schedule_unit::{AppNo, UnitNo};
 
-// A new pair goes last. There is room for each admitted unit.
+// A new pair goes last. It is one of the admitted units.
 fn add_unit(next: &mut Line, wishes: &Wishes, app: AppNo, unit: UnitNo)
     requires new { has_pair (app.0, unit.0) next.old.pairs ≡ false }
     requires unit { unit.0 < length (get_or wishes.now.cells app.0 []) }
     requires admitted { AreAdmitted wishes.now.cells next.old.pairs }
-    requires room { units_in_all wishes.now.cells ≤ next.old.room }
+    requires units { AllMayWait wishes.now.cells next.old.units }
     ensures pairs { next.new.pairs ≡ next.old.pairs ++ (app.0, unit.0) ∷ [] }
     ensures admitted { AreAdmitted wishes.now.cells next.new.pairs }
-    ensures room { next.old.room ≤ next.new.room }
+    ensures units { AreSameUnits next.old.units next.new.units }
 {
-    let _wishes = wishes.cluster();
-    next.distinct();
     next.push(app.0, unit.0);
 }
 
@@ -95,11 +93,11 @@ pub(crate) fn leave_unit(
     requires rises { IsRising (λ (p : Pair). turn_at turn_of.now.items p.0 p.1) line.old.pairs }
     requires holds { HoldsLine wishes.now.cluster wishes.now.cells line.old.pairs turn_of.now.items tree.old }
     ensures pairs { line.new.pairs ≡ cond (nat_lt 0 (out_of (asks_in wishes.now.cells) table.now.entries app.0 unit.0)) line.old.pairs (filter (λ p. not (nat_eq p.0 app.0 && nat_eq p.1 unit.0)) line.old.pairs) }
-    ensures room { line.new.room ≡ line.old.room }
+    ensures units { AreSameUnits line.old.units line.new.units }
     ensures holds { HoldsLine wishes.now.cluster wishes.now.cells line.new.pairs turn_of.now.items tree.new }
     ensures stands { (es : Table) → AllStand wishes.now.cluster wishes.now.cells es line.old.pairs tree.old → AllStand wishes.now.cluster wishes.now.cells es line.new.pairs tree.new }
 {
-    let _wishes = wishes.cluster();
+    wishes.are_sound();
     if !line.has(app.0, unit.0) {
         return;
     }
@@ -112,40 +110,89 @@ pub(crate) fn leave_unit(
     line.remove(place);
 }
 
-// The units of one job with nothing out leave the line and wait no more. True where another one begins to wait.
-fn leave_units(
+/// What changes in the line.
+#[derive(Clone, Copy)]
+struct Turnover {
+    /// A unit begins to wait.
+    begins: bool,
+    /// A unit of the line has nothing out any more.
+    ends: bool,
+}
+
+// Whether units of one job begin to wait, and whether some have nothing out any more.
+fn turnover_of(line: &Line, wishes: &Wishes, table: &GrantTable, app: AppNo) -> Turnover
+    requires level { AreLevel wishes.now.cluster (job_at wishes.now.cells) table.now }
+    ensures begins { result.begins ≡ false → (u : ℕ) → u < length (get_or wishes.now.cells app.0 []) → nat_lt 0 (out_of (asks_in wishes.now.cells) table.now.entries app.0 u) ≡ true → has_pair (app.0, u) line.now.pairs ≡ true }
+    ensures ends { result.ends ≡ false → (u : ℕ) → u < length (get_or wishes.now.cells app.0 []) → has_pair (app.0, u) line.now.pairs ≡ true → nat_lt 0 (out_of (asks_in wishes.now.cells) table.now.entries app.0 u) ≡ true }
+{
+    let mut begins = false;
+    let mut ends = false;
+    for number in 0..wishes.units(app) as u8 {
+        let waits = line.has(app.0, number);
+        let some = wishes.outstanding(table, app, UnitNo(number)) > 0;
+        begins |= some & !waits;
+        ends |= waits & !some;
+    }
+    Turnover { begins, ends }
+}
+
+// What changes in the line. The jobs alone are asked of which something was told.
+fn turnover_of_all(line: &Line, wishes: &Wishes, calm: &Calm, table: &GrantTable) -> Turnover
+    requires level { AreLevel wishes.now.cluster (job_at wishes.now.cells) table.now }
+    requires admitted { AreAdmitted wishes.now.cells line.now.pairs }
+    requires still { IsStill wishes.now.cells line.now.pairs calm.now table.now }
+    ensures begins { result.begins ≡ false → (a u : ℕ) → get_or calm.now a false ≡ false → u < length (get_or wishes.now.cells a []) → nat_lt 0 (out_of (asks_in wishes.now.cells) table.now.entries a u) ≡ true → has_pair (a, u) line.now.pairs ≡ true }
+    ensures ends { result.ends ≡ false → (p : Pair) → has_pair p line.now.pairs ≡ true → nat_lt 0 (out_of (asks_in wishes.now.cells) table.now.entries p.0 p.1) ≡ true }
+{
+    wishes.are_sound();
+    let low = calm.low();
+    let high = calm.high();
+    let mut begins = false;
+    let mut ends = false;
+    for number in low..high {
+        let app = AppNo(number);
+        if calm.is_calm(app) {
+            continue;
+        }
+        let one = turnover_of(line, wishes, table, app);
+        begins |= one.begins;
+        ends |= one.ends;
+    }
+    Turnover { begins, ends }
+}
+
+// The pairs with nothing out leave the line and wait no more, in one walk that keeps the others in their order.
+fn keep_waiting(
     line: &mut Line,
     tree: &mut Tree,
     wishes: &Wishes,
     turn_of: &Vec<u64>,
     table: &GrantTable,
-    app: AppNo,
-) -> bool
+)
     requires level { AreLevel wishes.now.cluster (job_at wishes.now.cells) table.now }
     requires admitted { AreAdmitted wishes.now.cells line.old.pairs }
     requires places { length turn_of.now.items ≡ unit_places }
     requires rises { IsRising (λ (p : Pair). turn_at turn_of.now.items p.0 p.1) line.old.pairs }
     requires holds { HoldsLine wishes.now.cluster wishes.now.cells line.old.pairs turn_of.now.items tree.old }
-    ensures pairs { line.new.pairs ≡ filter (λ p. nat_lt 0 (out_of (asks_in wishes.now.cells) table.now.entries p.0 p.1) || not (nat_eq p.0 app.0)) line.old.pairs }
-    ensures room { line.new.room ≡ line.old.room }
+    ensures pairs { line.new.pairs ≡ filter (λ p. nat_lt 0 (out_of (asks_in wishes.now.cells) table.now.entries p.0 p.1)) line.old.pairs }
+    ensures units { AreSameUnits line.old.units line.new.units }
     ensures holds { HoldsLine wishes.now.cluster wishes.now.cells line.new.pairs turn_of.now.items tree.new }
     ensures stands { AllStand wishes.now.cluster wishes.now.cells table.now.entries line.old.pairs tree.old → AllStand wishes.now.cluster wishes.now.cells table.now.entries line.new.pairs tree.new }
-    ensures none { result ≡ false → (u : ℕ) → u < length (get_or wishes.now.cells app.0 []) → nat_lt 0 (out_of (asks_in wishes.now.cells) table.now.entries app.0 u) ≡ true → has_pair (app.0, u) line.old.pairs ≡ true }
 {
-    let mut begins = false;
-    for number in 0..wishes.units(app) as u8 {
-        let unit = UnitNo(number);
-        let waits = line.has(app.0, number);
-        if wishes.outstanding(table, app, unit) > 0 {
-            begins |= !waits;
+    wishes.are_sound();
+    line.distinct();
+    let mut kept = 0;
+    for place in 0..line.len() {
+        let (app, unit) = line.at(place);
+        if wishes.outstanding(table, app, unit) == 0 {
+            let entry = entry_for(wishes, turn_of, app, unit);
+            tree.refresh(&entry, false);
             continue;
         }
-        if !waits {
-            continue;
-        }
-        leave_unit(line, tree, wishes, turn_of, table, app, unit);
+        line.swap(place, kept);
+        kept += 1;
     }
-    begins
+    line.truncate(kept);
 }
 
 /// The units of the line with nothing out leave it and wait no more. False where no other begins to wait.
@@ -165,34 +212,26 @@ pub(crate) fn leave(
     requires still { IsStill wishes.now.cells line.old.pairs calm.now table.now }
     ensures pairs { line.new.pairs ≡ filter (λ p. nat_lt 0 (out_of (asks_in wishes.now.cells) table.now.entries p.0 p.1)) line.old.pairs }
     ensures admitted { AreAdmitted wishes.now.cells line.new.pairs }
-    ensures room { line.new.room ≡ line.old.room }
+    ensures units { AreSameUnits line.old.units line.new.units }
     ensures holds { HoldsLine wishes.now.cluster wishes.now.cells line.new.pairs turn_of.now.items tree.new }
     ensures stands { AllStand wishes.now.cluster wishes.now.cells table.now.entries line.old.pairs tree.old → AllStand wishes.now.cluster wishes.now.cells table.now.entries line.new.pairs tree.new }
     ensures none { result ≡ false → (a u : ℕ) → get_or calm.now a false ≡ false → u < length (get_or wishes.now.cells a []) → nat_lt 0 (out_of (asks_in wishes.now.cells) table.now.entries a u) ≡ true → has_pair (a, u) line.new.pairs ≡ true }
 {
-    let _wishes = wishes.cluster();
-    let low = calm.low();
-    let high = calm.high();
-    let mut begins = false;
-    for number in low..high {
-        let app = AppNo(number);
-        if calm.is_calm(app) {
-            continue;
-        }
-        let one = leave_units(line, tree, wishes, turn_of, table, app);
-        begins |= one;
+    let turnover = turnover_of_all(line, wishes, calm, table);
+    if turnover.ends {
+        keep_waiting(line, tree, wishes, turn_of, table);
     }
-    begins
+    turnover.begins
 }
 
 // The units of one job that begin to wait go last, in their order.
 fn join_units(line: &mut Line, wishes: &Wishes, table: &GrantTable, app: AppNo)
     requires level { AreLevel wishes.now.cluster (job_at wishes.now.cells) table.now }
     requires admitted { AreAdmitted wishes.now.cells line.old.pairs }
-    requires room { units_in_all wishes.now.cells ≤ line.old.room }
+    requires units { AllMayWait wishes.now.cells line.old.units }
     ensures pairs { line.new.pairs ≡ line.old.pairs ++ filter (λ p. not (has_pair p line.old.pairs)) (waiting_of (asks_in wishes.now.cells) table.now.entries app.0 (length (get_or wishes.now.cells app.0 []))) }
     ensures admitted { AreAdmitted wishes.now.cells line.new.pairs }
-    ensures room { line.old.room ≤ line.new.room }
+    ensures units { AreSameUnits line.old.units line.new.units }
 {
     let units = wishes.units(app) as u8;
     for number in 0..units {
@@ -213,13 +252,13 @@ pub(crate) fn join(line: &mut Line, wishes: &Wishes, calm: &Calm, table: &GrantT
     requires jobs { AreJobs table.now.jobs }
     requires still { IsStill wishes.now.cells line.old.pairs calm.now table.now }
     requires admitted { AreAdmitted wishes.now.cells line.old.pairs }
-    requires room { units_in_all wishes.now.cells ≤ line.old.room }
+    requires units { AllMayWait wishes.now.cells line.old.units }
     requires none { begins ≡ false → (a u : ℕ) → get_or calm.now a false ≡ false → u < length (get_or wishes.now.cells a []) → nat_lt 0 (out_of (asks_in wishes.now.cells) table.now.entries a u) ≡ true → has_pair (a, u) line.old.pairs ≡ true }
     ensures pairs { line.new.pairs ≡ line.old.pairs ++ filter (λ p. not (has_pair p line.old.pairs)) (waiting_in (map (λ (j : JobRecord). j.number) table.now.jobs) (unit_count (as_known table.now.jobs)) (asks_in wishes.now.cells) table.now.entries) }
     ensures admitted { AreAdmitted wishes.now.cells line.new.pairs }
-    ensures room { line.old.room ≤ line.new.room }
+    ensures units { AreSameUnits line.old.units line.new.units }
 {
-    let _wishes = wishes.cluster();
+    wishes.are_sound();
     if !begins {
         return;
     }
@@ -250,7 +289,7 @@ pub(crate) fn number_from(
     ensures others { (a u : ℕ) → u < 8 → ((k : ℕ) → from ≤ k → slice_get line.now.pairs k ≡ Some (a, u) → ⊥) → turn_at turn_of.new.items a u ≡ turn_at turn_of.old.items a u }
 {
     line.distinct();
-    let _wishes = wishes.cluster();
+    wishes.are_sound();
     for place in from..line.len() {
         let (app, unit) = line.at(place);
         turn_of[slot(app, unit)] = turns + (place - from) as u64;

@@ -103,6 +103,13 @@ impl Wishes {
         })
     }
 
+    /// Says that what is asked is of admitted units, machines and racks of the cluster.
+    pub(crate) fn are_sound(&self)
+        ensures { AreWishes self.now.cluster self.now.cells self.now.opened }
+    {
+        let _ = &self.cluster;
+    }
+
     /// The cluster.
     pub(crate) fn cluster(&self) -> &Cluster
         ensures cluster { result.now ≡ self.now.cluster }

@@ -13,9 +13,9 @@ use Rattle.fuxi_terms.specs.Lists.{below}
 use Rattle.fuxi_terms.proofs.Alls.{all_append, all_more}
 use Rattle.fuxi_terms.proofs.Booleans.{both_true, number_is, nat_itself, or_left, or_right}
 use Rattle.fuxi_terms.proofs.Spots.{each_found}
-use Rattle.written_roles.specs.Placing.{has_pair}
+use Rattle.spec_roles.specs.Placing.{has_pair}
 use Rattle.grant_table.specs.GrantTables.{TableRecord, IsSound, AreJobs, as_known}
-use Rattle.written_roles.specs.Preemption.{in_walk_order_by}
+use Rattle.spec_roles.specs.Preemption.{in_walk_order_by}
 use Rattle.preempt.specs.Counted.{entries_on}
 use Rattle.preempt.specs.Given.{board_of}
 use Rattle.preempt.specs.Walks.{units_in, all_units, backward, pairs_by_priority, entry_on}

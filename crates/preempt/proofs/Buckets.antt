@@ -11,7 +11,7 @@ use Rattle.fuxi_terms.specs.Lists.{below}
 use Rattle.fuxi_terms.specs.Tables.{spot, held_on, Table}
 use Rattle.fuxi_terms.proofs.Alls.{all_append}
 use Rattle.fuxi_terms.proofs.Booleans.{and_false}
-use Rattle.written_roles.specs.Preemption.{goes_before_by, put_grant_by, in_walk_order_by}
+use Rattle.spec_roles.specs.Preemption.{goes_before_by, put_grant_by, in_walk_order_by}
 use Rattle.preempt.specs.Walks.{backward, pairs_by_priority, entry_on}
 
 -- a unit that stands behind another in the order of job and unit

@@ -8,8 +8,8 @@ use Rattle.fuxi_terms.specs.Cluster.{has_at, limit_at, quota_at, is_narrow}
 use Rattle.fuxi_terms.specs.Tables.{total_by, usage_by, Table}
 use Rattle.fuxi_terms.proofs.Members.{each_from}
 use Rattle.fuxi_terms.proofs.Booleans.{and_false, and_true}
-use Rattle.written_roles.specs.Placing.{Board}
-use Rattle.written_roles.specs.Preemption.{so_many, set_by, part_by, is_enough_in, is_guaranteed_in, is_spared_in, may_take_in}
+use Rattle.spec_roles.specs.Placing.{Board}
+use Rattle.spec_roles.specs.Preemption.{so_many, set_by, part_by, is_enough_in, is_guaranteed_in, is_spared_in, may_take_in}
 use Rattle.preempt.specs.Counted.{times_to_reach, least_of, own_size, enough_at, enough_times, spared_at, may_times, taken_count}
 use Rattle.preempt.proofs.Runs.{is_open, IsTake}
 use Rattle.preempt.proofs.RunsLeft.{IsKeep}

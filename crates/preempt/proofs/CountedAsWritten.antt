@@ -11,7 +11,7 @@ use Rattle.fuxi_terms.specs.Lists.{below_each}
 use Rattle.fuxi_terms.specs.Tables.{spot, Table}
 use Rattle.fuxi_terms.proofs.ByPlace.{at_place-get_or}
 use Rattle.fuxi_terms.proofs.Lists.{all_push}
-use Rattle.written_roles.specs.Preemption.{so_many, set_by, part_by}
+use Rattle.spec_roles.specs.Preemption.{so_many, set_by, part_by}
 use Rattle.grant_table.specs.GrantTables.{TableRecord, as_known}
 use Rattle.preempt.specs.Counted.{singles, times_to_reach, times_within, greatest_of, least_of, own_size, enough_at, enough_times, spared_at, may_times, taken_count, counted_taken, counted_kept}
 use Rattle.preempt.specs.declared.entry.Entry.{Entry}
@@ -37,7 +37,7 @@ each_same (suc n) f g h = let a = each_same n f g (λ i lt. h i (omega (arith, l
 
 module _ (tab : TableRecord) where
   -- the size of an entry, in one resource
-  pub size_is : (e : Entry) → IsEntry tab e → (i : ℕ) → slice_index e.size.now i ≡ size_at (as_known tab.jobs) e.app.0 e.unit.0 i
+  pub size_is : (e : Entry) → IsEntry tab e → (i : ℕ) → slice_index e.size.now.q i ≡ size_at (as_known tab.jobs) e.app.0 e.unit.0 i
   size_is e h i = ap (λ xs. get_or xs i 0) h.size ∙ sym (at_place-get_or (unit_of (as_known tab.jobs) e.app.0 e.unit.0).size i)
 
   -- Sums
@@ -46,10 +46,10 @@ module _ (tab : TableRecord) where
   total_is m i (e ∷ es) lt h =
       let w : Spot → ℕ = λ s. size_at (as_known tab.jobs) s.job s.unit i in
       let rest = total_is m i es lt h.1 in
-      let a = sum_by-cons (λ (e : Entry). e.count * slice_index e.size.now i) e es in
+      let a = sum_by-cons (λ (e : Entry). e.count * slice_index e.size.now.q i) e es in
       let b = sum_by-append w (so_many e.count (spot e.app.0 e.unit.0 m)) (singles (map (written m) es)) in
       let d = sum_many w e.count (spot e.app.0 e.unit.0 m) in
-      let s : e.count * slice_index e.size.now i ≡ e.count * size_at (as_known tab.jobs) e.app.0 e.unit.0 i = ap (λ k. e.count * k) (size_is e h.0 i) in
+      let s : e.count * slice_index e.size.now.q i ≡ e.count * size_at (as_known tab.jobs) e.app.0 e.unit.0 i = ap (λ k. e.count * k) (size_is e h.0 i) in
       omega (arith, rest, a, b, d, s)
 
   pub part_is : (m g i : ℕ) (set : List Entry) → i < tab.cluster.resources → AllByRecursion (IsEntry tab) set → part_in g i set ≡ part_by (group_of (as_known tab.jobs)) (size_at (as_known tab.jobs)) g i (singles (map (written m) set))
@@ -57,10 +57,10 @@ module _ (tab : TableRecord) where
   part_is m g i (e ∷ es) lt h =
       let w : Spot → ℕ = λ s. own_size (board_of tab) g s i in
       let rest = part_is m g i es lt h.1 in
-      let a = sum_by-cons (λ (e : Entry). cond (nat_eq e.group g) e.count 0 * slice_index e.size.now i) e es in
+      let a = sum_by-cons (λ (e : Entry). cond (nat_eq e.group g) e.count 0 * slice_index e.size.now.q i) e es in
       let b = sum_by-append w (so_many e.count (spot e.app.0 e.unit.0 m)) (singles (map (written m) es)) in
       let d = sum_many w e.count (spot e.app.0 e.unit.0 m) in
-      let s : cond (nat_eq e.group g) e.count 0 * slice_index e.size.now i ≡ cond (nat_eq (group_of (as_known tab.jobs) e.app.0) g) e.count 0 * size_at (as_known tab.jobs) e.app.0 e.unit.0 i = (λ k. cond (nat_eq (h.0.group k) g) e.count 0 * size_is e h.0 i k) in
+      let s : cond (nat_eq e.group g) e.count 0 * slice_index e.size.now.q i ≡ cond (nat_eq (group_of (as_known tab.jobs) e.app.0) g) e.count 0 * size_at (as_known tab.jobs) e.app.0 e.unit.0 i = (λ k. cond (nat_eq (h.0.group k) g) e.count 0 * size_is e h.0 i k) in
       let t = within (nat_eq (group_of (as_known tab.jobs) e.app.0) g) e.count (size_at (as_known tab.jobs) e.app.0 e.unit.0 i) in
       omega (arith, rest, a, b, d, s, t)
     where
@@ -81,9 +81,9 @@ module _ (tab : TableRecord) where
       → ((i : ℕ) → i < tab.cluster.resources → slice_index part i ≡ part_by (group_of (as_known tab.jobs)) (size_at (as_known tab.jobs)) (group_of (as_known tab.jobs) e.app.0) i set)
       → may_number n x part e ≡ may_times (board_of tab) tab.entries t set (spot e.app.0 e.unit.0 m) e.count
   may_number_is t n set x part e m need entry group p =
-      let l = ap (λ k. least_of e.count k (spared_in_one x part e.size.now e.count)) need.resources
-      ∙ least_same e.count tab.cluster.resources (spared_in_one x part e.size.now e.count) (spared_at (board_of tab) tab.entries set (spot e.app.0 e.unit.0 m) e.count)
-      (λ i lt. λ k. times_within (group.quota i lt k + p i lt k) (group.used i lt k) (size_is e entry i k) e.count) in
+      let l = ap (λ k. least_of e.count k (spared_in_one x part e.size.now.q e.count)) need.resources
+      ∙ least_same e.count tab.cluster.resources (spared_in_one x part e.size.now.q e.count) (spared_at (board_of tab) tab.entries set (spot e.app.0 e.unit.0 m) e.count)
+      (λ i lt. λ k. times_within (group.quota i k + p i lt k) (group.used i k) (size_is e entry i k) e.count) in
       λ k. cond (nat_eq (entry.group k) (need.group k)) (cond (nat_lt (entry.priority k) (need.priority k)) e.count 0) (cond (need.guaranteed k) (l k) 0)
 
 -- Steps
@@ -197,27 +197,27 @@ module _ (tab : TableRecord) (t : Spot) where
       }
 
 -- sums with one entry more, and with the first of the rest
-pub total_push : (i : ℕ) (set : List Entry) (x : Entry) → total_in i (set ++ x ∷ []) ≡ total_in i set + x.count * slice_index x.size.now i
+pub total_push : (i : ℕ) (set : List Entry) (x : Entry) → total_in i (set ++ x ∷ []) ≡ total_in i set + x.count * slice_index x.size.now.q i
 total_push i set x =
-    let w : Entry → ℕ = λ e. e.count * slice_index e.size.now i in
+    let w : Entry → ℕ = λ e. e.count * slice_index e.size.now.q i in
     let a = sum_by-append w set (x ∷ []) in
     let b = sum_by-cons w x [] in
     let z : sum_by w [] ≡ 0 = refl in
     omega (arith, a, b, z)
 
-pub part_push : (g i : ℕ) (set : List Entry) (x : Entry) → part_in g i (set ++ x ∷ []) ≡ part_in g i set + cond (nat_eq x.group g) x.count 0 * slice_index x.size.now i
+pub part_push : (g i : ℕ) (set : List Entry) (x : Entry) → part_in g i (set ++ x ∷ []) ≡ part_in g i set + cond (nat_eq x.group g) x.count 0 * slice_index x.size.now.q i
 part_push g i set x =
-    let w : Entry → ℕ = λ e. cond (nat_eq e.group g) e.count 0 * slice_index e.size.now i in
+    let w : Entry → ℕ = λ e. cond (nat_eq e.group g) e.count 0 * slice_index e.size.now.q i in
     let a = sum_by-append w set (x ∷ []) in
     let b = sum_by-cons w x [] in
     let z : sum_by w [] ≡ 0 = refl in
     omega (arith, a, b, z)
 
-pub total_first : (i k : ℕ) (d : Entry) (set : List Entry) → k < length set → total_in i (drop k set) ≡ (get_or set k d).count * slice_index (get_or set k d).size.now i + total_in i (drop (k + 1) set)
-total_first i k d set lt = at_drop_more (total_in i) set k d lt ∙ sum_by-cons (λ (e : Entry). e.count * slice_index e.size.now i) (get_or set k d) (drop (k + 1) set)
+pub total_first : (i k : ℕ) (d : Entry) (set : List Entry) → k < length set → total_in i (drop k set) ≡ (get_or set k d).count * slice_index (get_or set k d).size.now.q i + total_in i (drop (k + 1) set)
+total_first i k d set lt = at_drop_more (total_in i) set k d lt ∙ sum_by-cons (λ (e : Entry). e.count * slice_index e.size.now.q i) (get_or set k d) (drop (k + 1) set)
 
-pub part_first : (g i k : ℕ) (d : Entry) (set : List Entry) → k < length set → part_in g i (drop k set) ≡ cond (nat_eq (get_or set k d).group g) (get_or set k d).count 0 * slice_index (get_or set k d).size.now i + part_in g i (drop (k + 1) set)
-part_first g i k d set lt = at_drop_more (part_in g i) set k d lt ∙ sum_by-cons (λ (e : Entry). cond (nat_eq e.group g) e.count 0 * slice_index e.size.now i) (get_or set k d) (drop (k + 1) set)
+pub part_first : (g i k : ℕ) (d : Entry) (set : List Entry) → k < length set → part_in g i (drop k set) ≡ cond (nat_eq (get_or set k d).group g) (get_or set k d).count 0 * slice_index (get_or set k d).size.now.q i + part_in g i (drop (k + 1) set)
+part_first g i k d set lt = at_drop_more (part_in g i) set k d lt ∙ sum_by-cons (λ (e : Entry). cond (nat_eq e.group g) e.count 0 * slice_index e.size.now.q i) (get_or set k d) (drop (k + 1) set)
 
 -- sums by group, with an entry of which nothing is taken
 pub parts_same : (parts : GroupParts) (es : List Entry) (x : Entry) → x.count ≡ 0 → ArePartsOf parts es → ArePartsOf parts (es ++ x ∷ [])
@@ -226,14 +226,14 @@ parts_same parts es x none h = record {
   small = λ g i g_lt i_lt. let n = length-append es (x ∷ []) in let o = h.small g i g_lt i_lt in omega (arith, n, o);
 }
   where
-    nothing : (g i : ℕ) (b : Bool) → cond b x.count 0 * slice_index x.size.now i ≡ 0
-    nothing g i true = ap (λ n. n * slice_index x.size.now i) none ∙ omega arith
+    nothing : (g i : ℕ) (b : Bool) → cond b x.count 0 * slice_index x.size.now.q i ≡ 0
+    nothing g i true = ap (λ n. n * slice_index x.size.now.q i) none ∙ omega arith
     nothing g i false = omega arith
 
 -- sums by group, with one entry more
 pub parts_more : (old new : GroupParts) (es : List Entry) (x : Entry) (part more : List ℕ) → ArePartsOf old es → x.group < 32
     → ((i : ℕ) → i < 8 → slice_index part i ≡ taken_at old x.group i)
-    → ((i : ℕ) → i < 8 → slice_index more i ≡ slice_index part i + x.count * slice_index x.size.now i)
+    → ((i : ℕ) → i < 8 → slice_index more i ≡ slice_index part i + x.count * slice_index x.size.now.q i)
     → ((i : ℕ) → i < 8 → slice_index more i ≤ slice_index part i + 2 ^ 96)
     → ((g i : ℕ) → g < 32 → taken_at new g i ≡ cond (nat_eq x.group g) (slice_index more i) (taken_at old g i))
     → ArePartsOf new (es ++ x ∷ [])
@@ -246,14 +246,14 @@ parts_more old new es x part more h inside here is small put = record {
     by_is g i g_lt i_lt true e =
         let same : x.group ≡ g = grind (arith, nat_tests) in
         let p = part_push g i es x in
-        let one : cond (nat_eq x.group g) x.count 0 * slice_index x.size.now i ≡ x.count * slice_index x.size.now i = ap (λ b. cond b x.count 0 * slice_index x.size.now i) e in
+        let one : cond (nat_eq x.group g) x.count 0 * slice_index x.size.now.q i ≡ x.count * slice_index x.size.now.q i = ap (λ b. cond b x.count 0 * slice_index x.size.now.q i) e in
         let a : taken_at new g i ≡ slice_index more i = put g i g_lt ∙ ap (λ b. cond b (slice_index more i) (taken_at old g i)) e in
         let d = is i i_lt in
         let f = here i i_lt ∙ ap (λ j. taken_at old j i) same ∙ h.is g i g_lt i_lt in
         omega (arith, p, one, a, d, f)
     by_is g i g_lt i_lt false e =
         let p = part_push g i es x in
-        let none : cond (nat_eq x.group g) x.count 0 * slice_index x.size.now i ≡ 0 = ap (λ b. cond b x.count 0 * slice_index x.size.now i) e ∙ omega arith in
+        let none : cond (nat_eq x.group g) x.count 0 * slice_index x.size.now.q i ≡ 0 = ap (λ b. cond b x.count 0 * slice_index x.size.now.q i) e ∙ omega arith in
         let a : taken_at new g i ≡ taken_at old g i = put g i g_lt ∙ ap (λ b. cond b (slice_index more i) (taken_at old g i)) e in
         let f = h.is g i g_lt i_lt in
         omega (arith, p, none, a, f)

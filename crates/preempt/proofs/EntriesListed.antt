@@ -17,7 +17,7 @@ use Rattle.fuxi_terms.proofs.Booleans.{both_true, and_true, number_is, nat_itsel
 use Rattle.fuxi_terms.proofs.OneChangeMore.{both}
 use Rattle.fuxi_terms.proofs.CountsLemmas.{tied, same_counts, counts-where_key, count_le}
 use Rattle.fuxi_terms.proofs.KeyOrders.{spot_total, same_spot}
-use Rattle.written_roles.specs.Placing.{has_pair}
+use Rattle.spec_roles.specs.Placing.{has_pair}
 use Rattle.preempt.specs.Walks.{entry_on}
 use Rattle.preempt.proofs.Buckets.{IsAfter, IsRising}
 

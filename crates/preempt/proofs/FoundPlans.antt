@@ -10,7 +10,7 @@ use Rattle.fuxi_terms.specs.Keys.{Spot, spot_cmp}
 use Rattle.fuxi_terms.specs.Lists.{below_each}
 use Rattle.fuxi_terms.specs.Tables.{spot, Table}
 use Rattle.fuxi_terms.proofs.Booleans.{and_false}
-use Rattle.written_roles.specs.Preemption.{so_many, is_enough_in, is_some_set, victims_in, part_by}
+use Rattle.spec_roles.specs.Preemption.{so_many, is_enough_in, is_some_set, victims_in, part_by}
 use Rattle.grant_table.specs.GrantTables.{TableRecord, as_known}
 use Rattle.preempt.specs.Counted.{singles, counted_taken, counted_kept}
 use Rattle.preempt.specs.declared.entry.Entry.{Entry}

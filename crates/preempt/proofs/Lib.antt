@@ -12,6 +12,7 @@ pub mod Buckets
 pub mod EntriesListed
 pub mod Admitted
 pub mod UnitSteps
+mod UsedByHolders
 pub mod ShelvesLemmas
 pub mod StockLemmas
 pub mod Takable

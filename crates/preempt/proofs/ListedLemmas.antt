@@ -15,8 +15,9 @@ use Rattle.fuxi_terms.proofs.Lists.{take_last}
 use Rattle.grant_table.specs.GrantTables.{TableRecord}
 use Rattle.preempt.specs.declared.entry.Entry.{Entry}
 use Rattle.preempt.specs.Given.{IsEntry, pair_of, recounted, written}
-use Rattle.preempt.specs.Shelves.{AreHolders, AreRead, IsListed, IsRow, IsWalked}
+use Rattle.preempt.specs.Shelves.{AreHolders, AreRead, HoldsSome, IsListed, IsRow, IsWalked}
 use Rattle.preempt.specs.Walks.{entry_on}
+use Rattle.preempt.proofs.UnitSteps.{held_least}
 
 module _ (t : TableRecord) (units : List Entry) (e : Entry) where
   -- what the unit has on a machine
@@ -36,6 +37,7 @@ module _ (t : TableRecord) (units : List Entry) (e : Entry) where
         let f : nat_lt 0 (held_at m) ≡ false = grind (arith, nat_tests, none) in
         is.walk ∙ sym (append-nil (listed m units)) ∙ ap (λ b. listed m units ++ cond b ((spot e.app.0 e.unit.0 m, held_at m) ∷ []) []) (sym f) ∙ sym (listed_more m);
     each = is.each;
+    some = is.some;
     few = let l = is.few in let a = length-append units (e ∷ []) in omega (arith, l, a);
   }
 
@@ -47,6 +49,10 @@ module _ (t : TableRecord) (units : List Entry) (e : Entry) where
         map-append (written m) es (recounted e n ∷ []) ∙ (λ i. w i ++ (spot e.app.0 e.unit.0 m, same i) ∷ [])
         ∙ ap (λ b. listed m units ++ cond b ((spot e.app.0 e.unit.0 m, held_at m) ∷ []) []) (sym b) ∙ sym (listed_more m);
     each = all_append (IsEntry t) es (recounted e n ∷ []) is.each (record { unit = h.unit; group = h.group; small = h.small; priority = h.priority; size = h.size }, tt);
+    some =
+        let least = held_least t.entries e.app.0 e.unit.0 m in
+        let held_some : HoldsSome t (recounted e n) = grind (arith, nat_tests, same, some, least) in
+        all_append (HoldsSome t) es (recounted e n ∷ []) is.some (held_some, tt);
     few = let l = is.few in let a = length-append units (e ∷ []) in let b = length-append es (recounted e n ∷ []) in omega (arith, l, a, b);
   }
 
@@ -55,6 +61,7 @@ pub walked_is : (t : TableRecord) (holders : List Entry) (m : ℕ) (entries : Li
 walked_is t holders m entries are is = record {
   walk = is.walk ∙ are.lists m;
   each = is.each;
+  some = is.some;
   few = let a = is.few in let b = are.few in omega (arith, a, b);
 }
 

@@ -10,7 +10,7 @@ use Rattle.fuxi_terms.specs.Lists.{below_each}
 use Rattle.fuxi_terms.specs.Tables.{spot, total_at, usage_at, Table}
 use Rattle.fuxi_terms.proofs.Booleans.{and_true, not_false}
 use Rattle.fuxi_terms.proofs.Lists.{all_at}
-use Rattle.written_roles.specs.Preemption.{set_by, part_by, is_enough_in, is_guaranteed_in, walk_in, victims_in}
+use Rattle.spec_roles.specs.Preemption.{set_by, part_by, is_enough_in, is_guaranteed_in, walk_in, victims_in}
 use Rattle.grant_table.specs.GrantTables.{TableRecord, as_known}
 use Rattle.preempt.specs.Counted.{singles, all_spared, entries_on}
 use Rattle.preempt.specs.declared.entry.Entry.{Entry}
@@ -18,12 +18,12 @@ use Rattle.preempt.specs.declared.entry.Need.{Need}
 use Rattle.preempt.specs.declared.entry.GroupUse.{GroupUse}
 use Rattle.preempt.specs.declared.entry.Sums.{Sums}
 use Rattle.preempt.specs.declared.room.Rooms.{Rooms}
-use Rattle.preempt.specs.declared.shelf.Shelf.{Shelf}
+use Rattle.preempt.specs.declared.machine_grants.MachineGrants.{MachineGrants}
 use Rattle.preempt.specs.Given.{board_of, no_group, written, IsEntry, AreGroups, AreSpared}
 use Rattle.preempt.specs.GrantNumbers.{lower_in, spared_in}
 use Rattle.preempt.specs.GroupSums.{no_sums}
 use Rattle.preempt.specs.MachineRooms.{within_at, IsRoom, IsNarrower, AreRooms, IsFor, IsPlaceOf, IsKind, IsKindOf, AreRoomsFor}
-use Rattle.preempt.specs.Shelves.{IsShelf, IsWanted}
+use Rattle.preempt.specs.Shelves.{AreMachineGrants, IsWanted}
 use Rattle.preempt.proofs.Sums.{not_fit, not_allowed}
 use Rattle.preempt.proofs.CountedAsWritten.{size_is}
 use Rattle.preempt.proofs.MostTaken.{most_in, counted_most, most_whole, none_of_most, lower_weight, spared_weight, AreMostSums, most_sums}
@@ -32,7 +32,7 @@ use Rattle.preempt.proofs.UnitSteps.{got}
 
 -- ---- one machine
 -- what may be taken on a machine of the served group, and of all, and what that leaves of what the machine has and of what the group may use
-pub record AreLeft (groups : List GroupUse) (shelf : Shelf) (spared : List Entry) (n : Need) (room : List ℕ) : Type 0 where
+pub record AreLeft (groups : List GroupUse) (shelf : MachineGrants) (spared : List Entry) (n : Need) (room : List ℕ) : Type 0 where
   pub lower : List ℕ
   pub all : List ℕ
   pub used : List ℕ
@@ -40,10 +40,10 @@ pub record AreLeft (groups : List GroupUse) (shelf : Shelf) (spared : List Entry
   pub all_are : (i : ℕ) → i < 8 → slice_index all i ≡ slice_index lower i + spared_in n i spared
   pub used_are : (i : ℕ) → i < 8 → slice_index used i ≡ slice_index shelf.has i - slice_index shelf.free i
   pub room_are : (i : ℕ) → i < n.resources → slice_index room i ≡ min ((slice_index shelf.has i + slice_index all i) - slice_index used i)
-      ((slice_index (get_or groups n.group no_group).limit.now i + slice_index lower i) - slice_index (get_or groups n.group no_group).used.now i)
+      ((slice_index (get_or groups n.group no_group).bounds.now.limit.q i + slice_index lower i) - slice_index (get_or groups n.group no_group).used.q i)
 
-pub beyond_none : (t : TableRecord) (groups : List GroupUse) (m : ℕ) (shelf : Shelf) (spared_here : List Entry) (n : Need) (room : List ℕ) (a u i : ℕ)
-    → AreGroups t groups → IsShelf t m shelf → AreSpared t m shelf.entries.now spared_here → AreLeft groups shelf spared_here n room → n.group < 32 → n.group ≡ group_of (as_known t.jobs) a → n.priority ≡ priority_of (as_known t.jobs) a u
+pub beyond_none : (t : TableRecord) (groups : List GroupUse) (m : ℕ) (shelf : MachineGrants) (spared_here : List Entry) (n : Need) (room : List ℕ) (a u i : ℕ)
+    → AreGroups t groups → AreMachineGrants t m shelf → AreSpared t m shelf.entries.now spared_here → AreLeft groups shelf spared_here n room → n.group < 32 → n.group ≡ group_of (as_known t.jobs) a → n.priority ≡ priority_of (as_known t.jobs) a u
     → n.guaranteed ≡ is_guaranteed_in (board_of t) t.entries (spot a u m) → i < t.cluster.resources → i < 8 → i < n.resources → slice_index room i < size_at (as_known t.jobs) a u i → victims_in (board_of t) t.entries (spot a u m) ≡ None
 beyond_none t groups m shelf spared_here n room a u i are is spared_are left small group priority guaranteed lt few inside more =
     none_of_most (board_of t) t.entries s (ap (λ x. is_enough_in (board_of t) t.entries s x) whole ∙ by (nat_lt fits size) refl)
@@ -96,8 +96,8 @@ beyond_none t groups m shelf spared_here n room a u i are is spared_are left sma
         let w = sums.own in
         let z : part_by (group_of (as_known t.jobs)) (size_at (as_known t.jobs)) g i (singles []) ≡ 0 = refl in
         let x = are.each n.group small in
-        let l = x.limit i lt ∙ ap (λ g. limit_at t.cluster g i) group in
-        let v = x.used i lt ∙ ap (λ g. usage_at (as_known t.jobs) g i t.entries) group in
+        let l = x.limit i ∙ ap (λ g. limit_at t.cluster g i) group in
+        let v = x.used i ∙ ap (λ g. usage_at (as_known t.jobs) g i t.entries) group in
         let short : limit_at t.cluster g i + part_by (group_of (as_known t.jobs)) (size_at (as_known t.jobs)) g i all < usage_at (as_known t.jobs) g i t.entries + size = omega (arith, more, le, r, f, w, z, lower, l, v) in
         not_allowed (board_of t) t.entries s all i lt short
 
@@ -118,21 +118,21 @@ some_fails (suc n) test e = by (below_each n test) refl (test n) refl (some_fail
 
 module _ (t : TableRecord) (e : Entry) (h : IsEntry t e) (n : Need) (wanted : IsWanted t e.app.0 e.unit.0 n) where
   -- where some number of a room, or of one that it is narrower than, is below the size
-  beyond_room : (m : ℕ) (room wide : List ℕ) → IsRoom t n.group n.priority n.guaranteed m room → IsNarrower t.cluster.resources wide room → below_each n.resources (within_at e.size.now wide) ≡ false
+  beyond_room : (m : ℕ) (room wide : List ℕ) → IsRoom t n.group n.priority n.guaranteed m room → IsNarrower t.cluster.resources wide room → below_each n.resources (within_at e.size.now.q wide) ≡ false
       → victims_in (board_of t) t.entries (spot e.app.0 e.unit.0 m) ≡ None
   beyond_room m room wide is narrower f =
-      let fails = some_fails n.resources (within_at e.size.now wide) f in
+      let fails = some_fails n.resources (within_at e.size.now.q wide) f in
       let i = fails.place in
       let inside = fails.inside in
       let resources = wanted.resources in
       let lt : i < t.cluster.resources = omega (arith, inside, resources) in
-      let test : nat_lt (slice_index wide i) (slice_index e.size.now i) ≡ true = not_false (nat_lt (slice_index wide i) (slice_index e.size.now i)) fails.is in
-      let less : slice_index wide i < slice_index e.size.now i = grind (arith, nat_tests, test) in
+      let test : nat_lt (slice_index wide i) (slice_index e.size.now.q i) ≡ true = not_false (nat_lt (slice_index wide i) (slice_index e.size.now.q i)) fails.is in
+      let less : slice_index wide i < slice_index e.size.now.q i = grind (arith, nat_tests, test) in
       let le = narrower.each i lt in
       let size = size_is t e h i in
       is.beyond e.app.0 e.unit.0 i wanted.group wanted.priority wanted.guaranteed lt (omega (arith, less, le, size))
 
-  pub machine_beyond : (rooms : List Sums) (m : ℕ) → AreRoomsFor t n rooms → m < length t.cluster.machines → below_each n.resources (within_at e.size.now (get_or rooms m no_sums).q) ≡ false
+  pub machine_beyond : (rooms : List Sums) (m : ℕ) → AreRoomsFor t n rooms → m < length t.cluster.machines → below_each n.resources (within_at e.size.now.q (get_or rooms m no_sums).q) ≡ false
       → victims_in (board_of t) t.entries (spot e.app.0 e.unit.0 m) ≡ None
   machine_beyond rooms m are lt f =
       let long = are.long in
@@ -141,17 +141,17 @@ module _ (t : TableRecord) (e : Entry) (h : IsEntry t e) (n : Need) (wanted : Is
 
 -- where the widest of the rooms of its kind is not wide enough for a unit
 pub kind_beyond : (t : TableRecord) (e : Entry) → IsEntry t e → (r : Rooms) → AreRooms t r → IsKindOf t e r → is_narrow t.cluster (size_at (as_known t.jobs) e.app.0 e.unit.0) ≡ true → (resources : ℕ) → resources ≡ t.cluster.resources
-    → below_each resources (within_at e.size.now r.widest) ≡ false → (m : ℕ) → m < length t.cluster.machines → victims_in (board_of t) t.entries (spot e.app.0 e.unit.0 m) ≡ None
+    → below_each resources (within_at e.size.now.q r.widest) ≡ false → (m : ℕ) → m < length t.cluster.machines → victims_in (board_of t) t.entries (spot e.app.0 e.unit.0 m) ≡ None
 kind_beyond t e h r are kind narrow resources same f m lt =
     let long = are.long in
     let x = get_or r.each.items m no_sums in
     let there = got (λ _. true) r.each.items m no_sums (omega (arith, lt, long)) in
-    let fails = some_fails resources (within_at e.size.now r.widest) f in
+    let fails = some_fails resources (within_at e.size.now.q r.widest) f in
     let i = fails.place in
     let inside = fails.inside in
     let i_lt : i < t.cluster.resources = omega (arith, inside, same) in
-    let test : nat_lt (slice_index r.widest i) (slice_index e.size.now i) ≡ true = not_false (nat_lt (slice_index r.widest i) (slice_index e.size.now i)) fails.is in
-    let less : slice_index r.widest i < slice_index e.size.now i = grind (arith, nat_tests, test) in
+    let test : nat_lt (slice_index r.widest i) (slice_index e.size.now.q i) ≡ true = not_false (nat_lt (slice_index r.widest i) (slice_index e.size.now.q i)) fails.is in
+    let less : slice_index r.widest i < slice_index e.size.now.q i = grind (arith, nat_tests, test) in
     let le = (are.narrower m x there).each i i_lt in
     let size = size_is t e h i in
     (are.rooms m x there).beyond e.app.0 e.unit.0 i (kind.group ∙ h.group) (kind.priority ∙ h.priority) (kind.guaranteed narrow) i_lt (omega (arith, less, le, size))

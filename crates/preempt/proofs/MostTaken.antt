@@ -8,8 +8,8 @@ use Rattle.fuxi_terms.specs.Keys.{Spot}
 use Rattle.fuxi_terms.specs.Cluster.{quota_at}
 use Rattle.fuxi_terms.specs.Tables.{usage_by, Table}
 use Rattle.fuxi_terms.proofs.Booleans.{either, either_case, number_is}
-use Rattle.written_roles.specs.Placing.{Board}
-use Rattle.written_roles.specs.Preemption.{so_many, set_by, part_by, is_enough_in, is_guaranteed_in, may_take_in, taken_in, needed_in, walk_in, is_some_set, victims_in}
+use Rattle.spec_roles.specs.Placing.{Board}
+use Rattle.spec_roles.specs.Preemption.{so_many, set_by, part_by, is_enough_in, is_guaranteed_in, may_take_in, taken_in, needed_in, walk_in, is_some_set, victims_in}
 use Rattle.preempt.specs.Counted.{singles, own_size, times_within, least_of, spared_at, may_times, all_spared}
 use Rattle.preempt.proofs.Sums.{sum_many, by_enough, enough_by, narrow_enough}
 use Rattle.preempt.proofs.CountedAsWritten.{least_same}

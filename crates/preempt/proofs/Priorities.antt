@@ -7,7 +7,7 @@ use Rattle.fuxi_terms.specs.Jobs.{priority_of}
 use Rattle.fuxi_terms.specs.Lists.{below}
 use Rattle.fuxi_terms.proofs.Booleans.{number_is}
 use Rattle.fuxi_terms.proofs.IndexedLists.{one_set}
-use Rattle.written_roles.specs.Preemption.{first_plan_in}
+use Rattle.spec_roles.specs.Preemption.{first_plan_in}
 use Rattle.grant_table.specs.GrantTables.{TableRecord, as_known}
 use Rattle.preempt.specs.declared.entry.Entry.{Entry}
 use Rattle.preempt.specs.Given.{IsEntry, board_at, pair_of}

@@ -7,8 +7,8 @@ use Rattle.fuxi_terms.specs.Keys.{Spot}
 use Rattle.fuxi_terms.proofs.Alls.{all_append, all_front, all_back}
 use Rattle.fuxi_terms.proofs.Booleans.{both_true, either, either_case}
 use Rattle.fuxi_terms.specs.Tables.{spot, Table}
-use Rattle.written_roles.specs.Placing.{Board}
-use Rattle.written_roles.specs.Preemption.{so_many, victims_in, is_enough_in, is_spared_in, is_guaranteed_in, is_some_set, may_take_in, taken_in, needed_in, without_one, walk_in}
+use Rattle.spec_roles.specs.Placing.{Board}
+use Rattle.spec_roles.specs.Preemption.{so_many, victims_in, is_enough_in, is_spared_in, is_guaranteed_in, is_some_set, may_take_in, taken_in, needed_in, without_one, walk_in}
 use Rattle.preempt.specs.declared.plan.Victim.{Victim}
 use Rattle.preempt.specs.Plans.{losers_of, is_unit}
 

@@ -5,8 +5,8 @@ use Rattle.std.specs.List.{AllByRecursion}
 use Rattle.std.proofs.lemmas.Bool.Decides.{nat_tests}
 use Rattle.fuxi_terms.specs.Keys.{Spot}
 use Rattle.fuxi_terms.specs.Tables.{Table}
-use Rattle.written_roles.specs.Placing.{Board}
-use Rattle.written_roles.specs.Preemption.{so_many, is_enough_in, without_one, needed_in}
+use Rattle.spec_roles.specs.Placing.{Board}
+use Rattle.spec_roles.specs.Preemption.{so_many, is_enough_in, without_one, needed_in}
 
 abbrev pub is_same_unit : Spot → Spot → Bool
 is_same_unit s x = nat_eq s.job x.job && nat_eq s.unit x.unit

@@ -7,9 +7,9 @@ use Rattle.fuxi_terms.specs.Cluster.{is_narrow}
 use Rattle.fuxi_terms.specs.Keys.{Spot, Pair}
 use Rattle.fuxi_terms.specs.Lists.{below}
 use Rattle.fuxi_terms.specs.Tables.{spot, Table}
-use Rattle.written_roles.specs.Placing.{Board}
-use Rattle.written_roles.specs.Preemption.{victims_in, is_enough_in, is_some_set, taken_in, needed_in, walk_in, first_plan_in}
-use Rattle.written_roles.specs.Preemption.{Plan as WrittenPlan}
+use Rattle.spec_roles.specs.Placing.{Board}
+use Rattle.spec_roles.specs.Preemption.{victims_in, is_enough_in, is_some_set, taken_in, needed_in, walk_in, first_plan_in}
+use Rattle.spec_roles.specs.Preemption.{Plan as WrittenPlan}
 use Rattle.preempt.specs.Plans.{IsFirstPlan}
 use Rattle.preempt.specs.Search.{pairs_to}
 use Rattle.preempt.proofs.Sums.{narrow_enough}

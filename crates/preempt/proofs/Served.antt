@@ -14,9 +14,9 @@ use Rattle.fuxi_terms.specs.Lists.{below}
 use Rattle.fuxi_terms.specs.Tables.{spot, held_on, Table}
 use Rattle.fuxi_terms.proofs.Alls.{all_append, all_more, all_filter, all_flat}
 use Rattle.fuxi_terms.proofs.Lists.{take_last}
-use Rattle.written_roles.specs.Placing.{Board, accepts_in}
-use Rattle.written_roles.specs.Preemption.{Plan as WrittenPlan}
-use Rattle.written_roles.specs.Preemption.{victims_in, taken_in, needed_in, without_one, walk_in, may_take_in, is_enough_in, is_some_set, first_plan_in, plan_in, tried_in, by_priority_in, falling_priorities}
+use Rattle.spec_roles.specs.Placing.{Board, accepts_in}
+use Rattle.spec_roles.specs.Preemption.{Plan as WrittenPlan}
+use Rattle.spec_roles.specs.Preemption.{victims_in, taken_in, needed_in, without_one, walk_in, may_take_in, is_enough_in, is_some_set, first_plan_in, plan_in, tried_in, by_priority_in, falling_priorities}
 use Rattle.grant_table.specs.GrantTables.{TableRecord, IsSound, as_known}
 use Rattle.preempt.specs.declared.entry.Entry.{Entry}
 use Rattle.preempt.specs.declared.plan.Plan.{Plan}
@@ -269,7 +269,7 @@ module _ (B : Board) (t : TableRecord) (usable : ℕ → ℕ → ℕ → Bool) (
 
 -- ---- a unit of the line that has the priority which is searched
 abbrev pub no_entry : Entry
-no_entry = record { app = record { 0 = 0 }; unit = record { 0 = 0 }; group = 0; priority = 0; count = 0; size = record { ref_ptr = (0, 0); now = [] } }
+no_entry = record { app = record { 0 = 0 }; unit = record { 0 = 0 }; group = 0; priority = 0; count = 0; size = record { ref_ptr = (0, 0); now = record { q = [] } } }
 
 -- and what a unit has by machine
 abbrev pub no_row : Bor (List ℕ)

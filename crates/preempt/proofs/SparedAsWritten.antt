@@ -9,16 +9,16 @@ use Rattle.fuxi_terms.specs.Jobs.{group_of, priority_of, size_at}
 use Rattle.fuxi_terms.specs.Keys.{Spot}
 use Rattle.fuxi_terms.specs.Tables.{spot, Table}
 use Rattle.fuxi_terms.proofs.Lists.{all_push}
-use Rattle.written_roles.specs.Placing.{Board}
-use Rattle.written_roles.specs.Preemption.{so_many, part_by, is_guaranteed_in}
+use Rattle.spec_roles.specs.Placing.{Board}
+use Rattle.spec_roles.specs.Preemption.{so_many, part_by, is_guaranteed_in}
 use Rattle.grant_table.specs.GrantTables.{TableRecord, as_known}
 use Rattle.preempt.specs.Counted.{singles, times_within, least_of, spared_at, all_spared, counts_some}
 use Rattle.preempt.specs.declared.entry.Entry.{Entry}
 use Rattle.preempt.specs.declared.entry.Need.{Need}
 use Rattle.preempt.specs.declared.entry.GroupUse.{GroupUse}
 use Rattle.preempt.specs.Given.{board_of, no_group, written, IsEntry, IsGroup, AreGroups, recounted}
-use Rattle.preempt.specs.declared.shelf.Loose.TheVariants.{Nobody}
-use Rattle.preempt.specs.Shelves.{IsLoose, is_loose}
+use Rattle.preempt.specs.declared.machine_grants.Loose.TheVariants.{Nobody}
+use Rattle.preempt.specs.Shelves.{IsLoose, IsUsed, is_loose}
 use Rattle.preempt.specs.GrantNumbers.{spared_in_one, part_in, lower_in, spared_in}
 use Rattle.preempt.proofs.CountedAsWritten.{least_same, size_is, part_is, at_index}
 use Rattle.preempt.proofs.MostTaken.{lower_weight, spared_weight}
@@ -64,9 +64,9 @@ module _ (tab : TableRecord) (m : ℕ) where
   rest_spared es set = filter counts_some (all_spared (entries_at es) (board_of tab) tab.entries set)
 
   -- where no group is loose nothing is spared
-  pub none_spared : (groups : List GroupUse) → AreGroups tab groups → tab.cluster.resources ≤ 8 → (es : List Entry) → AllByRecursion (IsEntry tab) es → AllByRecursion (IsLoose tab.cluster.resources groups Nobody) es → (set : Table) → singles set ≡ [] → rest_spared es set ≡ []
-  none_spared groups are few [] h l set z = refl
-  none_spared groups are few (e ∷ es) h l set z = closed ∙ none_spared groups are few es h.1 l.1 (set ++ (s, n (singles set)) ∷ []) (singles_more set s (n (singles set)) ∙ (λ j. z j ++ so_many (none j) s))
+  pub none_spared : (groups : List GroupUse) → AreGroups tab groups → (es : List Entry) → AllByRecursion (IsEntry tab) es → AllByRecursion (IsUsed groups) es → AllByRecursion (IsLoose groups Nobody) es → (set : Table) → singles set ≡ [] → rest_spared es set ≡ []
+  none_spared groups are [] h within l set z = refl
+  none_spared groups are (e ∷ es) h within l set z = closed ∙ none_spared groups are es h.1 within.1 l.1 (set ++ (s, n (singles set)) ∷ []) (singles_more set s (n (singles set)) ∙ (λ j. z j ++ so_many (none j) s))
     where
       s : Spot
       s = spot e.app.0 e.unit.0 m
@@ -80,7 +80,7 @@ module _ (tab : TableRecord) (m : ℕ) where
       by : (b : Bool) → nat_lt 0 (n []) ≡ b → n [] ≡ 0
       by false f = grind (arith, nat_tests, f)
       by true some =
-          let spares : is_loose Nobody e.group ≡ true = l.0.loosened (sym (spares_beside tab groups are few m e h.0) ∙ spared_below (board_of tab) tab.entries s [] s e.count 0 (grind (arith, nat_tests, some))) in
+          let spares : is_loose Nobody e.group ≡ true = l.0.loosened (sym (spares_beside tab groups are m e h.0 within.0) ∙ spared_below (board_of tab) tab.entries s [] s e.count 0 (grind (arith, nat_tests, some))) in
           cc
 
       none : n (singles set) ≡ 0
@@ -100,7 +100,7 @@ module _ (tab : TableRecord) (m : ℕ) where
   module _ (entries : List Entry) (k : ℕ) (set : List Entry) (resources : ℕ) (groups : List GroupUse) (d : Entry) (part : List ℕ) (n : ℕ)
       (all : AllByRecursion (IsEntry tab) entries) (are : AreGroups tab groups) (res : resources ≡ tab.cluster.resources) (at : AtSpared entries k set) (lt : k < length entries) (few : resources ≤ 8)
       (p : (i : ℕ) → i < 8 → slice_index part i ≡ part_in (get_or entries k d).group i set)
-      (is : n ≡ least_of (get_or entries k d).count resources (spared_in_one (get_or groups (get_or entries k d).group no_group) part (get_or entries k d).size.now (get_or entries k d).count)) where
+      (is : n ≡ least_of (get_or entries k d).count resources (spared_in_one (get_or groups (get_or entries k d).group no_group) part (get_or entries k d).size.now.q (get_or entries k d).count)) where
     abbrev e : Entry
     e = get_or entries k d
 
@@ -118,11 +118,11 @@ module _ (tab : TableRecord) (m : ℕ) where
     same =
         let x = get_or groups e.group no_group in
         let group : IsGroup tab (group_of (as_known tab.jobs) e.app.0) x = subst (λ g. IsGroup tab g x) entry.group (are.each e.group entry.small) in
-        is ∙ ap (λ j. least_of e.count j (spared_in_one x part e.size.now e.count)) res
-        ∙ least_same e.count tab.cluster.resources (spared_in_one x part e.size.now e.count) (spared_at (board_of tab) tab.entries (singles (entries_at set)) s e.count)
+        is ∙ ap (λ j. least_of e.count j (spared_in_one x part e.size.now.q e.count)) res
+        ∙ least_same e.count tab.cluster.resources (spared_in_one x part e.size.now.q e.count) (spared_at (board_of tab) tab.entries (singles (entries_at set)) s e.count)
         (λ i i_lt.
         let q = p i (omega (arith, i_lt, few, res)) ∙ (part_is tab m e.group i set i_lt at.each ∙ ap (λ g. part_by (group_of (as_known tab.jobs)) (size_at (as_known tab.jobs)) g i (singles (entries_at set))) entry.group) in
-        λ j. times_within (group.quota i i_lt j + q j) (group.used i i_lt j) (size_is tab e entry i j) e.count)
+        λ j. times_within (group.quota i j + q j) (group.used i j) (size_is tab e entry i j) e.count)
 
     abbrev behind : Table
     behind = all_spared (entries_at (drop (k + 1) entries)) (board_of tab) tab.entries (entries_at set ++ (s, c) ∷ [])
@@ -163,9 +163,9 @@ module _ (tab : TableRecord) (m : ℕ) where
     lower_is group priority [] h = refl
     lower_is group priority (e ∷ es) h =
         let rest = lower_is group priority es h.1 in
-        let x = sum_by-cons (λ (e : Entry). cond (nat_eq e.group n.group && nat_lt e.priority n.priority) e.count 0 * slice_index e.size.now i) e es in
+        let x = sum_by-cons (λ (e : Entry). cond (nat_eq e.group n.group && nat_lt e.priority n.priority) e.count 0 * slice_index e.size.now.q i) e es in
         let y = sum_by-cons (lower_weight (board_of tab) tab.entries (spot a u m) i) (written m e) (entries_at es) in
-        let here : cond (nat_eq e.group n.group && nat_lt e.priority n.priority) e.count 0 * slice_index e.size.now i ≡ lower_weight (board_of tab) tab.entries (spot a u m) i (written m e) =
+        let here : cond (nat_eq e.group n.group && nat_lt e.priority n.priority) e.count 0 * slice_index e.size.now.q i ≡ lower_weight (board_of tab) tab.entries (spot a u m) i (written m e) =
         λ j. cond (nat_eq (h.0.group j) (group j) && nat_lt (h.0.priority j) (priority j)) e.count 0 * size_is tab e h.0 i j in
         omega (arith, rest, x, y, here)
 
@@ -174,8 +174,8 @@ module _ (tab : TableRecord) (m : ℕ) where
     spared_is group guaranteed [] h = refl
     spared_is group guaranteed (e ∷ es) h =
         let rest = spared_is group guaranteed es h.1 in
-        let x = sum_by-cons (λ (e : Entry). cond (n.guaranteed && not (nat_eq e.group n.group)) e.count 0 * slice_index e.size.now i) e es in
+        let x = sum_by-cons (λ (e : Entry). cond (n.guaranteed && not (nat_eq e.group n.group)) e.count 0 * slice_index e.size.now.q i) e es in
         let y = sum_by-cons (spared_weight (board_of tab) tab.entries (spot a u m) i) (written m e) (entries_at es) in
-        let here : cond (n.guaranteed && not (nat_eq e.group n.group)) e.count 0 * slice_index e.size.now i ≡ spared_weight (board_of tab) tab.entries (spot a u m) i (written m e) =
+        let here : cond (n.guaranteed && not (nat_eq e.group n.group)) e.count 0 * slice_index e.size.now.q i ≡ spared_weight (board_of tab) tab.entries (spot a u m) i (written m e) =
         λ j. cond (guaranteed j && not (nat_eq (h.0.group j) (group j))) e.count 0 * size_is tab e h.0 i j in
         omega (arith, rest, x, y, here)

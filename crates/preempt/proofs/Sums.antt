@@ -7,8 +7,8 @@ use Rattle.fuxi_terms.specs.Keys.{Spot}
 use Rattle.fuxi_terms.specs.Tables.{total_by, usage_by, Table}
 use Rattle.fuxi_terms.proofs.Booleans.{both_true, and_true, false_and, false_right}
 use Rattle.fuxi_terms.proofs.Members.{each_place, each_from}
-use Rattle.written_roles.specs.Placing.{Board}
-use Rattle.written_roles.specs.Preemption.{so_many, set_by, part_by, is_enough_in}
+use Rattle.spec_roles.specs.Placing.{Board}
+use Rattle.spec_roles.specs.Preemption.{so_many, set_by, part_by, is_enough_in}
 use Rattle.preempt.specs.Counted.{own_size}
 use Rattle.preempt.proofs.Numbers.{at_least, is_at_least, too_small, each_false}
 

@@ -8,7 +8,7 @@ use Rattle.fuxi_terms.specs.Jobs.{priority_of}
 use Rattle.fuxi_terms.specs.Keys.{Spot, spot_cmp}
 use Rattle.fuxi_terms.specs.Tables.{spot, Table}
 use Rattle.fuxi_terms.proofs.Alls.{all_more}
-use Rattle.written_roles.specs.Placing.{Board}
+use Rattle.spec_roles.specs.Placing.{Board}
 use Rattle.grant_table.specs.GrantTables.{TableRecord, IsSound, as_known}
 use Rattle.preempt.specs.Counted.{singles, enough_times, may_times, taken_count, counted_taken, counted_kept, entries_on}
 use Rattle.preempt.specs.declared.entry.Entry.{Entry}

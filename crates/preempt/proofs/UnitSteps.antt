@@ -1,5 +1,5 @@
 -- One step of each loop that lists units.
-use Rattle.std.proofs.Common.{◌≡◌, ℕ, zero, suc, ◌+◌, ◌-◌, ◌<◌, ◌≤◌, Bool, true, false, cond, nat_eq, nat_lt, List, [], ◌∷◌, ◌++◌, length, map, filter, get_or, take, Some, refl, sym, ◌∙◌, ap, arith, append_assoc, add-one}
+use Rattle.std.proofs.Common.{◌≡◌, ℕ, zero, suc, ◌+◌, ◌-◌, ◌<◌, ◌≤◌, Bool, true, false, cond, nat_eq, nat_lt, List, [], ◌∷◌, ◌++◌, length, map, filter, get_or, take, Some, refl, sym, ◌∙◌, ap, subst, arith, append_assoc, add-one}
 use Rattle.std.specs.Prelude.{◌&&◌, slice_get, Option}
 use Rattle.std.specs.Option.{unwrap_or, option_map}
 use Rattle.std.specs.List.{AllByRecursion, flat_map}
@@ -15,14 +15,14 @@ use Rattle.fuxi_terms.specs.Jobs.{KnownJob, unit_count, unit_of, priority_of, gr
 use Rattle.fuxi_terms.specs.Keys.{Spot, spot_cmp, Pair}
 use Rattle.fuxi_terms.specs.Lists.{below}
 use Rattle.fuxi_terms.specs.Tables.{spot, held, held_on, Table}
-use Rattle.fuxi_terms.proofs.Alls.{all_append}
+use Rattle.fuxi_terms.proofs.Alls.{all_append, all_map, all_passed}
 use Rattle.fuxi_terms.proofs.Booleans.{nat_itself}
 use Rattle.fuxi_terms.proofs.CountsLemmas.{tied}
 use Rattle.fuxi_terms.proofs.KeyOrders.{same_spot}
 use Rattle.grant_table.specs.GrantTables.{TableRecord, IsSound, as_known}
 use Rattle.preempt.specs.declared.entry.Entry.{Entry}
 use Rattle.preempt.specs.Given.{IsEntry, pair_of}
-use Rattle.preempt.specs.Shelves.{AreHolders}
+use Rattle.preempt.specs.Shelves.{AreHolders, HoldsSome}
 use Rattle.preempt.specs.Walks.{units_in, all_units, backward, of_priority, entries_by_priority, pairs_by_priority, holds_some, entry_on}
 use Rattle.preempt.proofs.Admitted.{job_found, valid_at, few_units, ordered_length, walk_is}
 use Rattle.fuxi_terms.proofs.ValidJobs.{group_valid}
@@ -34,7 +34,7 @@ units_counted t s i j at = ap (λ (o : Option KnownJob). length (unwrap_or (opti
 
 -- a unit of the job at a place is an entry
 pub entry_found : (t : TableRecord) → IsSound t → (i : ℕ) (j : JobRecord) → slice_get t.jobs i ≡ Some j → (u : ℕ) (x : UnitRecord) → slice_get j.units u ≡ Some x → u < length j.units
-    → (e : Entry) → e.app.0 ≡ j.number → e.unit.0 ≡ u → e.group ≡ j.group → e.priority ≡ x.priority → e.size.now ≡ x.size → IsEntry t e
+    → (e : Entry) → e.app.0 ≡ j.number → e.unit.0 ≡ u → e.group ≡ j.group → e.priority ≡ x.priority → e.size.now.q ≡ x.size → IsEntry t e
 entry_found t s i j at u x is lt e app unit group priority size =
     let f = job_found t.jobs s.in_order i j at in
     let g = group_valid j (valid_at t.jobs s.in_order i j at) in
@@ -108,7 +108,7 @@ all_ordered P es h n = over (below n)
 
 -- ---- those that have grants
 -- a unit has on a machine no more than in all
-held_least : (es : Table) (a u m : ℕ) → held_on es a u m ≤ held es a u
+pub held_least : (es : Table) (a u m : ℕ) → held_on es a u m ≤ held es a u
 held_least [] a u m = omega arith
 held_least (x ∷ xs) a u m = by (eq_by_cmp spot_cmp s x.0) refl (held_least xs a u m)
   where
@@ -199,6 +199,11 @@ module _ (test : Pair → Bool) where
           let r = over ks in
           (λ i. a i ++ r i) ∙ sym (filter-append test (backward of ps) (flat_map (λ k. backward (λ (p : Pair). nat_eq (priorities p.0 p.1) k) ps) ks))
 
+-- units that pass the test have grants
+pub holders_some : (t : TableRecord) (units : List Entry) (ps : List Pair) → map pair_of units ≡ filter (holds_some t.entries) ps → AllByRecursion (HoldsSome t) units
+holders_some t units ps is =
+    all_map (λ p. holds_some t.entries p ≡ true) pair_of units (subst (AllByRecursion (λ p. holds_some t.entries p ≡ true)) (sym is) (all_passed (λ p. holds_some t.entries p ≡ true) (holds_some t.entries) ps (λ p h. h)))
+
 pub holders_ordered : (t : TableRecord) → IsSound t → (units : List Entry) → map pair_of units ≡ filter (holds_some t.entries) (all_units t.jobs) → AllByRecursion (IsEntry t) units → AreHolders t (entries_by_priority units 10)
 holders_ordered t s units is each =
     let priorities = priority_of (as_known t.jobs) in
@@ -208,6 +213,7 @@ holders_ordered t s units is each =
     let pairs : map pair_of ordered ≡ filter test all = pairs_ordered t units each 10 ∙ ap (λ ps. pairs_by_priority priorities ps 10) is ∙ order_passed test priorities (all_units t.jobs) 10 in
     record {
       each = all_ordered (IsEntry t) units each 10;
+      some = all_ordered (HoldsSome t) units (holders_some t units (all_units t.jobs) is) 10;
       few =
           let a : length (map pair_of ordered) ≡ length ordered = length-map ordered pair_of in
           let b = ap length pairs in

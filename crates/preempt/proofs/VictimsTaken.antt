@@ -21,7 +21,7 @@ use Rattle.fuxi_terms.proofs.CountsLemmas.{tied, count-set_count, counts-set_cou
 use Rattle.fuxi_terms.proofs.KeyOrders.{spot_total, same_spot}
 use Rattle.fuxi_terms.proofs.Members.{each_place}
 use Rattle.fuxi_terms.proofs.Sums.{sum_set}
-use Rattle.written_roles.specs.Preemption.{so_many, set_by, is_enough_in}
+use Rattle.spec_roles.specs.Preemption.{so_many, set_by, is_enough_in}
 use Rattle.grant_table.specs.GrantTables.{TableRecord, IsSound, as_known, without_count}
 use Rattle.preempt.specs.declared.plan.Victim.{Victim}
 use Rattle.preempt.specs.Given.{board_of}

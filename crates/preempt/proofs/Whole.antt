@@ -15,8 +15,8 @@ use Rattle.fuxi_terms.proofs.Alls.{all_append}
 use Rattle.fuxi_terms.proofs.Booleans.{both_true, number_is}
 use Rattle.fuxi_terms.specs.Keys.{Spot, spot_cmp}
 use Rattle.fuxi_terms.specs.Tables.{Table}
-use Rattle.written_roles.specs.Placing.{Board}
-use Rattle.written_roles.specs.Preemption.{goes_before_by, put_grant_by, in_walk_order_by, so_many, is_enough_in, taken_in, needed_in, is_some_set, victims_in}
+use Rattle.spec_roles.specs.Placing.{Board}
+use Rattle.spec_roles.specs.Preemption.{goes_before_by, put_grant_by, in_walk_order_by, so_many, is_enough_in, taken_in, needed_in, is_some_set, victims_in}
 use Rattle.preempt.specs.Counted.{singles, enough_times, taken_count, counted_taken, counted_kept, entries_on, counted_victims}
 use Rattle.preempt.proofs.Runs.{run_taken}
 use Rattle.preempt.proofs.RunsLeft.{is_same_unit, IsApart, IsKeep, run_left}

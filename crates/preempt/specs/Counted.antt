@@ -4,8 +4,8 @@ use Rattle.std.specs.List.{flat_map}
 use Rattle.fuxi_terms.specs.Cluster.{has_at, limit_at, quota_at}
 use Rattle.fuxi_terms.specs.Keys.{Spot}
 use Rattle.fuxi_terms.specs.Tables.{total_by, usage_by, Table}
-use Rattle.written_roles.specs.Placing.{Board}
-use Rattle.written_roles.specs.Preemption.{in_walk_order_by, so_many, set_by, part_by, is_enough_in, is_guaranteed_in, is_some_set}
+use Rattle.spec_roles.specs.Placing.{Board}
+use Rattle.spec_roles.specs.Preemption.{in_walk_order_by, so_many, set_by, part_by, is_enough_in, is_guaranteed_in, is_some_set}
 
 -- the single grants of entries, in their order
 abbrev pub singles : Table → List Spot

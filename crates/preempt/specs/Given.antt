@@ -1,12 +1,12 @@
 -- What the program's entries, needs, groups and shelves stand for.
-use Rattle.std.specs.Prelude.{◌≡◌, ℕ, ◌+◌, ◌<◌, Bool, true, false, List, [], length, map, filter, get_or, slice_index}
+use Rattle.std.specs.Prelude.{◌≡◌, ℕ, ◌+◌, ◌<◌, ◌≤◌, Bool, true, false, List, [], length, map, filter, get_or, slice_index}
 use Rattle.std.specs.List.{AllByRecursion}
 use Rattle.fuxi_terms.specs.Cluster.{has_at, limit_at, quota_at, is_narrow}
 use Rattle.fuxi_terms.specs.Keys.{Spot, Pair}
 use Rattle.fuxi_terms.specs.Jobs.{priority_of, group_of, size_at, most_of, unit_of, unit_count}
 use Rattle.fuxi_terms.specs.Tables.{spot, total_at, usage_at}
-use Rattle.written_roles.specs.Placing.{Board}
-use Rattle.written_roles.specs.Preemption.{is_guaranteed_in}
+use Rattle.spec_roles.specs.Placing.{Board}
+use Rattle.spec_roles.specs.Preemption.{is_guaranteed_in}
 use Rattle.grant_table.specs.GrantTables.{TableRecord, as_known}
 use Rattle.preempt.specs.Counted.{entries_on, counted_taken, counted_kept, all_spared, counts_some}
 use Rattle.preempt.specs.declared.plan.Victim.{Victim}
@@ -32,7 +32,7 @@ abbrev pub board_of : TableRecord → Board
 board_of t = board_at t (λ a u m. false)
 
 abbrev pub no_group : GroupUse
-no_group = record { quota = record { ref_ptr = (0, 0); now = [] }; limit = record { ref_ptr = (0, 0); now = [] }; used = record { ref_ptr = (0, 0); now = [] } }
+no_group = record { bounds = record { ref_ptr = (0, 0); now = record { quota = record { q = [] }; limit = record { q = [] } } }; used = record { q = [] } }
 
 abbrev pub written : ℕ → Entry → Spot × ℕ
 written m e = (spot e.app.0 e.unit.0 m, e.count)
@@ -46,7 +46,7 @@ pub record IsEntry (t : TableRecord) (e : Entry) : Type 0 where
   pub group : e.group ≡ group_of (as_known t.jobs) e.app.0
   pub small : e.group < 32
   pub priority : e.priority ≡ priority_of (as_known t.jobs) e.app.0 e.unit.0
-  pub size : e.size.now ≡ (unit_of (as_known t.jobs) e.app.0 e.unit.0).size
+  pub size : e.size.now.q ≡ (unit_of (as_known t.jobs) e.app.0 e.unit.0).size
 
 -- what one more grant at s needs
 pub record IsNeed (t : TableRecord) (s : Spot) (n : Need) : Type 0 where
@@ -60,10 +60,12 @@ pub record IsNeed (t : TableRecord) (s : Spot) (n : Need) : Type 0 where
   pub limit : (i : ℕ) → i < t.cluster.resources → slice_index n.limit i ≡ limit_at t.cluster (group_of (as_known t.jobs) s.job) i
   pub allowed : (i : ℕ) → i < t.cluster.resources → slice_index n.allowed i ≡ usage_at (as_known t.jobs) (group_of (as_known t.jobs) s.job) i t.entries + size_at (as_known t.jobs) s.job s.unit i
 
+-- what a group is promised, may use and uses: nothing of a resource that the cluster does not have
 pub record IsGroup (t : TableRecord) (g : ℕ) (x : GroupUse) : Type 0 where
-  pub quota : (i : ℕ) → i < t.cluster.resources → slice_index x.quota.now i ≡ quota_at t.cluster g i
-  pub limit : (i : ℕ) → i < t.cluster.resources → slice_index x.limit.now i ≡ limit_at t.cluster g i
-  pub used : (i : ℕ) → i < t.cluster.resources → slice_index x.used.now i ≡ usage_at (as_known t.jobs) g i t.entries
+  pub quota : (i : ℕ) → slice_index x.bounds.now.quota.q i ≡ quota_at t.cluster g i
+  pub limit : (i : ℕ) → slice_index x.bounds.now.limit.q i ≡ limit_at t.cluster g i
+  pub used : (i : ℕ) → slice_index x.used.q i ≡ usage_at (as_known t.jobs) g i t.entries
+  pub beyond : (i : ℕ) → t.cluster.resources ≤ i → (quota_at t.cluster g i ≡ 0) × (usage_at (as_known t.jobs) g i t.entries ≡ 0)
 
 pub record AreGroups (t : TableRecord) (groups : List GroupUse) : Type 0 where
   pub long : length groups ≡ 32

@@ -5,9 +5,9 @@ use Rattle.fuxi_terms.specs.Cluster.{has_at}
 use Rattle.fuxi_terms.specs.Keys.{Spot}
 use Rattle.fuxi_terms.specs.Jobs.{unit_count, priority_of, size_at, most_of, group_of}
 use Rattle.fuxi_terms.specs.Tables.{spot, held_on, total_at, Table}
-use Rattle.written_roles.specs.Placing.{Board}
-use Rattle.written_roles.specs.Preemption.{victims_in}
-use Rattle.written_roles.specs.Preemption.{Plan as WrittenPlan}
+use Rattle.spec_roles.specs.Placing.{Board}
+use Rattle.spec_roles.specs.Preemption.{victims_in}
+use Rattle.spec_roles.specs.Preemption.{Plan as WrittenPlan}
 use Rattle.grant_table.specs.GrantTables.{TableRecord, as_known, without_count}
 use Rattle.grant_table.specs.declared.asking.Pick.{Pick}
 use Rattle.preempt.specs.Counted.{singles}

@@ -6,8 +6,8 @@ use Rattle.fuxi_terms.specs.Keys.{Spot, Pair}
 use Rattle.fuxi_terms.specs.Jobs.{priority_of}
 use Rattle.fuxi_terms.specs.Lists.{below}
 use Rattle.fuxi_terms.specs.Tables.{spot}
-use Rattle.written_roles.specs.Placing.{accepts_in}
-use Rattle.written_roles.specs.Preemption.{first_plan_in}
+use Rattle.spec_roles.specs.Placing.{accepts_in}
+use Rattle.spec_roles.specs.Preemption.{first_plan_in}
 use Rattle.grant_table.specs.GrantTables.{TableRecord, as_known}
 use Rattle.preempt.specs.declared.plan.Plan.{Plan}
 use Rattle.preempt.specs.Given.{board_at}

@@ -1,28 +1,36 @@
 -- What is kept of each machine, and what of a unit that waits.
-use Rattle.std.specs.Prelude.{◌≡◌, ℕ, ◌+◌, ◌<◌, ◌≤◌, Bool, true, false, not, cond, nat_eq, nat_lt, ◌&&◌, ◌||◌, List, [], length, map, get_or, slice_index, slice_get, Some, None}
+use Rattle.std.specs.Prelude.{◌≡◌, ℕ, ◌+◌, ◌<◌, ◌≤◌, Bool, true, false, not, cond, nat_eq, nat_lt, ◌&&◌, ◌||◌, IsTrue, List, [], length, map, get_or, slice_index, slice_get, Some, None}
 use Rattle.std.specs.Borrow.{Bor}
 use Rattle.std.specs.List.{AllByRecursion, flat_map}
 use Rattle.fuxi_terms.specs.Cluster.{has_at, limit_at, is_narrow}
 use Rattle.fuxi_terms.specs.Jobs.{priority_of, group_of, size_at}
-use Rattle.fuxi_terms.specs.Lists.{below_each}
 use Rattle.fuxi_terms.specs.Tables.{spot, held_on, total_at, usage_at}
 use Rattle.fuxi_terms.specs.Keys.{Pair, Spot}
-use Rattle.written_roles.specs.Preemption.{is_guaranteed_in, may_take_in, victims_in}
+use Rattle.fuxi_terms.specs.Vectors.{fits, minus}
+use Rattle.spec_roles.specs.Preemption.{is_guaranteed_in, may_take_in, victims_in}
 use Rattle.grant_table.specs.GrantTables.{TableRecord, as_known}
 use Rattle.preempt.specs.Counted.{entries_on}
 use Rattle.preempt.specs.declared.entry.Entry.{Entry}
 use Rattle.preempt.specs.declared.entry.Need.{Need}
 use Rattle.preempt.specs.declared.entry.GroupUse.{GroupUse}
-use Rattle.preempt.specs.declared.shelf.Loose.{Loose}
-use Rattle.preempt.specs.declared.shelf.Loose.TheVariants.{Nobody, One, Several}
-use Rattle.preempt.specs.declared.shelf.Shelf.{Shelf}
-use Rattle.preempt.specs.declared.stock.Stock.{Stock}
+use Rattle.preempt.specs.declared.machine_grants.Loose.{Loose}
+use Rattle.preempt.specs.declared.machine_grants.Loose.TheVariants.{Nobody, One, Several}
+use Rattle.preempt.specs.declared.machine_grants.MachineGrants.{MachineGrants}
+use Rattle.preempt.specs.declared.snapshot.Snapshot.{Snapshot}
 use Rattle.preempt.specs.Given.{AreGroups, IsEntry, no_group, written, board_of, pair_of}
-use Rattle.preempt.specs.Walks.{entry_on}
+use Rattle.preempt.specs.Walks.{entry_on, holds_some}
+
+-- a unit has grants, so that its group uses one of its size
+abbrev pub HoldsSome : TableRecord → Entry → Type 0
+HoldsSome t e = holds_some t.entries (pair_of e) ≡ true
+
+abbrev pub IsUsed : List GroupUse → Entry → Type 0
+IsUsed groups e = IsTrue (fits e.size.now.q (get_or groups e.group no_group).used.q)
 
 -- units with grants, in the order of the walk: the entries of a machine are theirs
 pub record AreHolders (t : TableRecord) (units : List Entry) : Type 0 where
   pub each : AllByRecursion (IsEntry t) units
+  pub some : AllByRecursion (HoldsSome t) units
   pub few : length units ≤ 1000000
   pub lists : (m : ℕ) → flat_map (entry_on t.entries m) (map pair_of units) ≡ entries_on (board_of t) t.entries m
 
@@ -30,6 +38,7 @@ pub record AreHolders (t : TableRecord) (units : List Entry) : Type 0 where
 pub record IsListed (t : TableRecord) (units : List Entry) (m : ℕ) (entries : List Entry) : Type 0 where
   pub walk : map (written m) entries ≡ flat_map (entry_on t.entries m) (map pair_of units)
   pub each : AllByRecursion (IsEntry t) entries
+  pub some : AllByRecursion (HoldsSome t) entries
   pub few : length entries ≤ length units
 
 -- by machine what a unit has, and that of each unit
@@ -45,18 +54,16 @@ pub record AreRead (t : TableRecord) (units : List Entry) (counts : List (Bor (L
 pub record IsWalked (t : TableRecord) (m : ℕ) (entries : List Entry) : Type 0 where
   pub walk : map (written m) entries ≡ entries_on (board_of t) t.entries m
   pub each : AllByRecursion (IsEntry t) entries
+  pub some : AllByRecursion (HoldsSome t) entries
   pub few : length entries ≤ 1000000
 
 -- a unit without victims, wherever it is tried
 pub record HasNoVictims (t : TableRecord) (p : Pair) : Type 0 where
   pub none : (m : ℕ) → victims_in (board_of t) t.entries (spot p.0 p.1 m) ≡ None
 
--- whether a group spares one grant of a size, in each of so many resources
-abbrev pub spares_at : GroupUse → List ℕ → ℕ → Bool
-spares_at g size i = not (nat_lt (slice_index g.used.now i) (slice_index g.quota.now i + slice_index size i))
-
-abbrev pub spares : ℕ → GroupUse → List ℕ → Bool
-spares resources g size = below_each resources (spares_at g size)
+-- whether a group spares one grant of a size
+abbrev pub spares : GroupUse → List ℕ → Bool
+spares g size = fits g.bounds.now.quota.q (minus g.used.q size)
 
 -- whether a group is among those that can lose grants, and whether another one is
 abbrev pub is_loose : Loose → ℕ → Bool
@@ -73,10 +80,10 @@ is_other_loose Several g = true
 pub record IsLow (lowest : List ℕ) (e : Entry) : Type 0 where
   pub least : get_or lowest e.group 0 ≤ e.priority
 
-pub record IsLoose (resources : ℕ) (groups : List GroupUse) (loose : Loose) (e : Entry) : Type 0 where
-  pub loosened : spares resources (get_or groups e.group no_group) e.size.now ≡ true → is_loose loose e.group ≡ true
+pub record IsLoose (groups : List GroupUse) (loose : Loose) (e : Entry) : Type 0 where
+  pub loosened : spares (get_or groups e.group no_group) e.size.now.q ≡ true → is_loose loose e.group ≡ true
 
-pub record IsShelf (t : TableRecord) (m : ℕ) (s : Shelf) : Type 0 where
+pub record AreMachineGrants (t : TableRecord) (m : ℕ) (s : MachineGrants) : Type 0 where
   pub walk : map (written m) s.entries.now ≡ entries_on (board_of t) t.entries m
   pub each : AllByRecursion (IsEntry t) s.entries.now
   pub few : length s.entries.now ≤ 1000000
@@ -106,7 +113,7 @@ pub record IsLike (t : TableRecord) (s : Spot) (n : Need) : Type 0 where
 
 -- whether any grant of a unit may be taken: of the own group by priority, of another where it spares one
 abbrev pub may_take : Need → List GroupUse → Entry → Bool
-may_take n groups e = cond (nat_eq e.group n.group) (nat_lt e.priority n.priority) (n.guaranteed && spares n.resources (get_or groups e.group no_group) e.size.now)
+may_take n groups e = cond (nat_eq e.group n.group) (nat_lt e.priority n.priority) (n.guaranteed && spares (get_or groups e.group no_group) e.size.now.q)
 
 -- a unit of which nothing may be taken on a machine
 pub record IsShut (t : TableRecord) (s : Spot) (e : Entry) : Type 0 where
@@ -130,7 +137,7 @@ pub record AreFree (t : TableRecord) (free : List (List ℕ)) : Type 0 where
   pub each : (m : ℕ) (q : List ℕ) → slice_get free m ≡ Some q → IsFree t m q
 
 -- what a search reads
-pub record IsStock (t : TableRecord) (s : Stock) : Type 0 where
+pub record IsSnapshot (t : TableRecord) (s : Snapshot) : Type 0 where
   pub groups : AreGroups t s.groups.now
   pub holders : AreHolders t s.holders.now
   pub read : AreRead t s.holders.now s.counts.now

@@ -4,6 +4,8 @@ ghost use Rattle.std.specs.Prelude.{◌≡◌, ℕ, ◌+◌, ◌*◌, ◌^◌, �
 ghost use Rattle.preempt.specs.Given.{recounted};
 ghost use Rattle.preempt.specs.GrantNumbers.{lower_in, spared_in};
 
+use cluster_desc::Group;
+use res_vector::Res;
 use schedule_unit::{AppNo, UnitNo};
 
 /// A unit, and how many grants it has or loses on a machine.
@@ -14,7 +16,7 @@ pub(crate) struct Entry<'a> {
     pub(crate) group: usize,
     pub(crate) priority: u8,
     pub(crate) count: u32,
-    pub(crate) size: &'a [u64; 8],
+    pub(crate) size: &'a Res,
 }
 
 /// What one more grant of a unit needs on a machine and in its group.
@@ -36,11 +38,10 @@ pub(crate) struct Need {
 }
 
 /// What a group is promised and may use, and what it uses.
-#[derive(Clone, Copy)]
+#[derive(Drop)]
 pub(crate) struct GroupUse<'a> {
-    pub(crate) quota: &'a [u64; 8],
-    pub(crate) limit: &'a [u64; 8],
-    pub(crate) used: &'a [u64; 8],
+    pub(crate) bounds: &'a Group,
+    pub(crate) used: Res,
 }
 
 /// What grants take of each resource.
@@ -132,7 +133,7 @@ pub(crate) fn lower_of(entries: &[Entry<'_>], need: &Need) -> [u128; 8]
 {
     let mut sums = [0; 8];
     for e in entries {
-        sums = raised(&sums, e.size, lower_count(need, e));
+        sums = raised(&sums, &e.size.q, lower_count(need, e));
     }
     sums
 }
@@ -146,7 +147,7 @@ pub(crate) fn with_spared(lower: &[u128; 8], spared: &[Entry<'_>], need: &Need) 
 {
     let mut sums = *lower;
     for e in spared {
-        sums = raised(&sums, e.size, spared_count(need, e));
+        sums = raised(&sums, &e.size.q, spared_count(need, e));
     }
     sums
 }

@@ -7,9 +7,9 @@ ghost use Rattle.fuxi_terms.specs.Counts.{AreCounts};
 ghost use Rattle.fuxi_terms.specs.Keys.{spot_cmp, Pair};
 ghost use Rattle.fuxi_terms.specs.Limits.{greatest_count};
 ghost use Rattle.fuxi_terms.specs.Tables.{held_on, usage_by, without_grants, Table};
-ghost use Rattle.written_roles.specs.Placing.{Board, has_pair};
-ghost use Rattle.written_roles.specs.Preemption.{plan_in, tried_in, victims_in, part_by};
-ghost use Rattle.written_roles.specs.Preemption.{Plan as WrittenPlan};
+ghost use Rattle.spec_roles.specs.Placing.{Board, has_pair};
+ghost use Rattle.spec_roles.specs.Preemption.{plan_in, tried_in, victims_in, part_by};
+ghost use Rattle.spec_roles.specs.Preemption.{Plan as WrittenPlan};
 ghost use Rattle.preempt.specs.declared.plan.Victim.{Victim};
 ghost use Rattle.preempt.specs.Plans.{IsFirstPlan, is_unit, losers_of, without_victims};
 

@@ -2,17 +2,17 @@
 //! computed, so that a search is linear in the units that have grants on a machine, whatever their counts.
 #![tactic(auto)]
 
-mod chance;
 mod entry;
 pub mod law;
+mod machine_grants;
 mod need;
 mod number;
 mod parts;
 mod plan;
+mod quick_reject;
 mod room;
 mod search;
-mod shelf;
-mod stock;
+mod snapshot;
 mod victims;
 mod walk;
 

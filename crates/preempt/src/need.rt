@@ -6,20 +6,21 @@ ghost use Rattle.std.specs.List.{All, AllByRecursion};
 ghost use Rattle.fuxi_terms.specs.Cluster.{JobRecord, is_narrow};
 ghost use Rattle.fuxi_terms.specs.Jobs.{unit_count, size_at};
 ghost use Rattle.fuxi_terms.specs.Tables.{spot};
-ghost use Rattle.written_roles.specs.Preemption.{is_guaranteed_in, victims_in};
+ghost use Rattle.spec_roles.specs.Preemption.{is_guaranteed_in, victims_in};
 ghost use Rattle.grant_table.specs.GrantTables.{TableRecord, IsSound, as_known};
 ghost use Rattle.preempt.specs.Given.{AreGroups, IsEntry, IsGroup, IsNeed, board_of, pair_of};
 ghost use Rattle.preempt.specs.Plans.{AreTakable, losers_of};
-ghost use Rattle.preempt.specs.Shelves.{IsShelf, IsWanted};
+ghost use Rattle.preempt.specs.Shelves.{AreMachineGrants, IsWanted};
 
 use crate::entry::{Entry, GroupUse, Need};
-use crate::number::{is_narrow, reach};
+use crate::machine_grants::{MachineGrants, used_of};
+use crate::number::is_narrow;
 use crate::plan::Victim;
-use crate::shelf::{Shelf, used_of};
 use crate::victims::{Scratch, victims_on};
 use crate::walk::entry_of;
 use fuxi_terms::OutOfMemory;
 use grant_table::{Asking, GrantTable};
+use quota_group::guaranteed;
 use schedule_unit::{AppNo, UnitNo};
 use std::alloc::Global;
 
@@ -43,7 +44,7 @@ fn unit_of<'a>(table: &'a GrantTable, app: AppNo, unit: UnitNo) -> Entry<'a>
     ensures entry { IsEntry table.now result }
     ensures pair { pair_of result ≡ (app.0, unit.0) }
 {
-    let _cluster = table.cluster();
+    table.is_sound();
     let job = table.job(place_of(table, app));
     entry_of(job, unit)
 }
@@ -83,9 +84,8 @@ pub(crate) fn is_guaranteed(table: &GrantTable, group: &GroupUse<'_>, e: &Entry<
     requires group { IsGroup table.now e.now.group group.now }
     ensures { is_narrow table.now.cluster (size_at (as_known table.now.jobs) e.now.app.0 e.now.unit.0) ≡ true → result ≡ is_guaranteed_in (board_of table.now) table.now.entries (spot e.now.app.0 e.now.unit.0 0) }
 {
-    let resources = table.cluster().resources() as usize;
-    let allowed = sum_of(group.used, e.size);
-    reach(resources, group.quota, &[0; 8], &allowed)
+    table.is_sound();
+    guaranteed(group.bounds, &group.used, e.size)
 }
 
 /// What one more grant of a unit needs, wherever it is, and `None` exactly where it fits nowhere, since it needs
@@ -96,31 +96,30 @@ pub(crate) fn need_of(table: &GrantTable, group: &GroupUse<'_>, e: &Entry<'_>) -
     ensures { MatchOption result (is_narrow table.now.cluster (size_at (as_known table.now.jobs) e.now.app.0 e.now.unit.0) ≡ false) (IsWanted table.now e.now.app.0 e.now.unit.0) }
 {
     let resources = table.cluster().resources() as usize;
-    if !is_narrow(resources, e.size) {
+    if !is_narrow(resources, &e.size.q) {
         return None;
     }
-    let allowed = sum_of(group.used, e.size);
     Some(Need {
         resources,
         group: e.group,
         priority: e.priority,
-        guaranteed: reach(resources, group.quota, &[0; 8], &allowed),
+        guaranteed: is_guaranteed(table, group, e),
         has: [0; 8],
         fits: [0; 8],
-        limit: *group.limit,
-        allowed,
+        limit: group.bounds.limit.q,
+        allowed: sum_of(&group.used.q, &e.size.q),
     })
 }
 
 // What it needs on a machine.
-fn on_shelf(need: &Need, e: &Entry<'_>, shelf: &Shelf<'_, '_>) -> Need
-    ensures need { (t : TableRecord) (m : ℕ) → IsEntry t e.now → IsWanted t e.now.app.0 e.now.unit.0 need.now → IsShelf t m shelf.now → t.cluster.resources ≤ 8 → IsNeed t (spot e.now.app.0 e.now.unit.0 m) result }
+fn on_machine_grants(need: &Need, e: &Entry<'_>, shelf: &MachineGrants<'_, '_>) -> Need
+    ensures need { (t : TableRecord) (m : ℕ) → IsEntry t e.now → IsWanted t e.now.app.0 e.now.unit.0 need.now → AreMachineGrants t m shelf.now → t.cluster.resources ≤ 8 → IsNeed t (spot e.now.app.0 e.now.unit.0 m) result }
     ensures group { result.group ≡ need.now.group }
     ensures resources { result.resources ≡ need.now.resources }
 {
     Need {
         has: shelf.has,
-        fits: sum_of(&used_of(&shelf.has, &shelf.free), e.size),
+        fits: sum_of(&used_of(&shelf.has, &shelf.free), &e.size.q),
         ..*need
     }
 }
@@ -130,7 +129,7 @@ pub(crate) fn victims_for<'a>(
     alloc: Global,
     need: &Need,
     e: &Entry<'_>,
-    shelf: &Shelf<'_, 'a>,
+    shelf: &MachineGrants<'_, 'a>,
     groups: &[GroupUse<'_>],
     scratch: &mut Scratch<'a>,
 ) -> Result<Option<Vec<Victim>>, OutOfMemory>
@@ -139,10 +138,10 @@ pub(crate) fn victims_for<'a>(
     requires few { length shelf.now.entries.now ≤ 1000000 }
     requires small { All (λ e. e.group < 32) shelf.now.entries.now }
     requires long { length groups.now ≡ 32 }
-    ensures found { IfOk result (λ found. (t : TableRecord) (m : ℕ) → IsSound t → AreGroups t groups.now → IsEntry t e.now → IsWanted t e.now.app.0 e.now.unit.0 need.now → IsShelf t m shelf.now →
+    ensures found { IfOk result (λ found. (t : TableRecord) (m : ℕ) → IsSound t → AreGroups t groups.now → IsEntry t e.now → IsWanted t e.now.app.0 e.now.unit.0 need.now → AreMachineGrants t m shelf.now →
         MatchOption found (victims_in (board_of t) t.entries (spot e.now.app.0 e.now.unit.0 m) ≡ None) (λ vs. victims_in (board_of t) t.entries (spot e.now.app.0 e.now.unit.0 m) ≡ Some (losers_of m vs.items))) }
-    ensures takable { IfOk result (λ found. (t : TableRecord) (m : ℕ) → IsSound t → AreGroups t groups.now → IsEntry t e.now → IsWanted t e.now.app.0 e.now.unit.0 need.now → IsShelf t m shelf.now → IfSome found (λ vs. AreTakable t m vs.items)) }
+    ensures takable { IfOk result (λ found. (t : TableRecord) (m : ℕ) → IsSound t → AreGroups t groups.now → IsEntry t e.now → IsWanted t e.now.app.0 e.now.unit.0 need.now → AreMachineGrants t m shelf.now → IfSome found (λ vs. AreTakable t m vs.items)) }
 {
-    let need = on_shelf(need, e, shelf);
+    let need = on_machine_grants(need, e, shelf);
     victims_on(alloc, shelf.entries, &need, groups, scratch)
 }

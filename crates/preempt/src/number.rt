@@ -68,11 +68,16 @@ pub(crate) fn needed_number(
     let is_own = e.group == need.group;
     let mut best: u32 = 0;
     for i in 0..need.resources {
-        let to_fit = times_to_reach(need.has[i] as u128 + all[i], need.fits[i], e.size[i], most);
+        let to_fit = times_to_reach(
+            need.has[i] as u128 + all[i],
+            need.fits[i],
+            e.size.q[i],
+            most,
+        );
         let within = times_to_reach(
             need.limit[i] as u128 + own[i],
             need.allowed[i],
-            size_if(is_own, e.size[i]),
+            size_if(is_own, e.size.q[i]),
             most,
         );
         let times = to_fit.max(within);
@@ -96,8 +101,8 @@ pub(crate) fn spared_number(
     let mut best = most;
     for i in 0..resources {
         let times = times_within(
-            group.quota[i] as u128 + part[i],
-            group.used[i] as u128,
+            group.bounds.quota.q[i] as u128 + part[i],
+            group.used.q[i] as u128,
             size[i],
             most,
         );
@@ -119,7 +124,7 @@ pub(crate) fn may_number(need: &Need, group: &GroupUse<'_>, part: &[u128; 8], e:
         return 0;
     }
     if need.guaranteed {
-        return spared_number(need.resources, group, part, e.size, e.count);
+        return spared_number(need.resources, group, part, &e.size.q, e.count);
     }
     0
 }

@@ -7,12 +7,12 @@ ghost use Rattle.fuxi_terms.specs.Lists.{below_each};
 ghost use Rattle.grant_table.specs.GrantTables.{TableRecord};
 ghost use Rattle.preempt.specs.Given.{AreGroups, AreSpared};
 ghost use Rattle.preempt.specs.MachineRooms.{AreRooms, IsFor, IsKind, IsPlaceOf, IsRoom, within_at};
-ghost use Rattle.preempt.specs.Shelves.{AreOpen, IsShelf, IsStock, IsWalked};
+ghost use Rattle.preempt.specs.Shelves.{AreOpen, AreMachineGrants, IsSnapshot, IsWalked};
 
 use crate::entry::{Entry, GroupUse, Need, Sums, lower_of, with_spared};
+use crate::machine_grants::{MachineGrants, machine_grants_of, spared_on, used_of};
 use crate::parts::Parts;
-use crate::shelf::{Shelf, shelf_of, spared_on, used_of};
-use crate::stock::{Stock, entries_on, has_any_on, open_rows};
+use crate::snapshot::{Snapshot, entries_on, has_any_on, open_rows};
 use fuxi_terms::OutOfMemory;
 use grant_table::GrantTable;
 use schedule_unit::MachineNo;
@@ -74,12 +74,12 @@ fn left_on(
     requires resources { resources ≤ 8 }
     requires all_small { (i : ℕ) → i < 8 → slice_index all.now i < 2 ^ 127 }
     requires own_small { (i : ℕ) → i < 8 → slice_index own.now i < 2 ^ 127 }
-    ensures { (i : ℕ) → i < resources → slice_index result i ≡ min ((slice_index has.now i + slice_index all.now i) - slice_index used.now i) ((slice_index group.now.limit.now i + slice_index own.now i) - slice_index group.now.used.now i) }
+    ensures { (i : ℕ) → i < resources → slice_index result i ≡ min ((slice_index has.now i + slice_index all.now i) - slice_index used.now i) ((slice_index group.now.bounds.now.limit.q i + slice_index own.now i) - slice_index group.now.used.q i) }
 {
     let mut q = [0; 8];
     for i in 0..resources {
         let fits = left_of(has[i], all[i], used[i]);
-        let allowed = left_of(group.limit[i], own[i], group.used[i]);
+        let allowed = left_of(group.bounds.limit.q[i], own[i], group.used.q[i]);
         q[i] = fits.min(allowed);
     }
     q
@@ -87,7 +87,7 @@ fn left_on(
 
 // What there is room for on a machine, once all that may be taken there is gone: it fits, and its group may use it.
 fn room_on(
-    shelf: &Shelf<'_, '_>,
+    shelf: &MachineGrants<'_, '_>,
     spared: &[Entry<'_>],
     need: &Need,
     groups: &[GroupUse<'_>],
@@ -97,7 +97,7 @@ fn room_on(
     requires few { length shelf.now.entries.now ≤ 1000000 }
     requires few_spared { length spared.now ≤ 1000000 }
     requires long { length groups.now ≡ 32 }
-    ensures { (t : TableRecord) (m : ℕ) → AreGroups t groups.now → IsShelf t m shelf.now → AreSpared t m shelf.now.entries.now spared.now → need.now.resources ≡ t.cluster.resources → IsRoom t need.now.group need.now.priority need.now.guaranteed m result.q }
+    ensures { (t : TableRecord) (m : ℕ) → AreGroups t groups.now → AreMachineGrants t m shelf.now → AreSpared t m shelf.now.entries.now spared.now → need.now.resources ≡ t.cluster.resources → IsRoom t need.now.group need.now.priority need.now.guaranteed m result.q }
 {
     let lower = lower_of(shelf.entries, need);
     let all = with_spared(&lower, spared, need);
@@ -112,22 +112,22 @@ fn room_on(
 fn room_among(
     alloc: Global,
     table: &GrantTable,
-    stock: &Stock<'_>,
+    stock: &Snapshot<'_>,
     entries: &[Entry<'_>],
     need: &Need,
     machine: MachineNo,
     parts: &mut Parts,
 ) -> Result<Sums, OutOfMemory>
-    requires stock { IsStock table.now stock.now }
+    requires stock { IsSnapshot table.now stock.now }
     requires resources { need.now.resources ≡ table.now.cluster.resources }
     requires own { need.now.group < 32 }
     requires machine { machine.0 < length table.now.cluster.machines }
     requires entries { IsWalked table.now machine.0 entries.now }
     ensures { IfOk result (λ room. IsRoom table.now need.now.group need.now.priority need.now.guaranteed machine.0 room.q) }
 {
-    let _cluster = table.cluster();
+    table.is_sound();
     let spared = spared_on(alloc, entries, need.resources, stock.groups, parts)?;
-    let shelf = shelf_of(table, stock, entries, machine);
+    let shelf = machine_grants_of(table, stock, entries, machine);
     Ok(room_on(&shelf, &spared, need, stock.groups))
 }
 
@@ -135,13 +135,13 @@ fn room_among(
 fn room_at(
     alloc: Global,
     table: &GrantTable,
-    stock: &Stock<'_>,
+    stock: &Snapshot<'_>,
     rows: &[&[u32]],
     need: &Need,
     machine: MachineNo,
     parts: &mut Parts,
 ) -> Result<Sums, OutOfMemory>
-    requires stock { IsStock table.now stock.now }
+    requires stock { IsSnapshot table.now stock.now }
     requires resources { need.now.resources ≡ table.now.cluster.resources }
     requires own { need.now.group < 32 }
     requires machine { machine.0 < length table.now.cluster.machines }
@@ -159,11 +159,11 @@ fn room_at(
 pub(crate) fn rooms_of(
     alloc: Global,
     table: &GrantTable,
-    stock: &Stock<'_>,
+    stock: &Snapshot<'_>,
     need: &Need,
     parts: &mut Parts,
 ) -> Result<Rooms, OutOfMemory>
-    requires stock { IsStock table.now stock.now }
+    requires stock { IsSnapshot table.now stock.now }
     requires resources { need.now.resources ≡ table.now.cluster.resources }
     requires own { need.now.group < 32 }
     ensures rooms { IfOk result (AreRooms table.now) }

@@ -7,28 +7,30 @@ ghost use Rattle.std.specs.List.{AllByRecursion, flat_map};
 ghost use Rattle.std.specs.Option.{option_map};
 ghost use Rattle.fuxi_terms.specs.Jobs.{unit_count};
 ghost use Rattle.fuxi_terms.specs.Lists.{below_each};
-ghost use Rattle.written_roles.specs.Placing.{Board};
-ghost use Rattle.written_roles.specs.Preemption.{plan_in, falling_priorities};
+ghost use Rattle.spec_roles.specs.Placing.{Board};
+ghost use Rattle.spec_roles.specs.Preemption.{plan_in, falling_priorities};
 ghost use Rattle.grant_table.specs.GrantTables.{as_known};
 ghost use Rattle.preempt.specs.Given.{IsEntry, pair_of};
 ghost use Rattle.preempt.specs.GroupSums.{no_sums};
 ghost use Rattle.preempt.specs.MachineRooms.{AreRooms, AreRoomsFor, IsKindOf, within_at};
 ghost use Rattle.preempt.specs.Plans.{IsBoardOf, CanBeMade, plan_as};
 ghost use Rattle.preempt.specs.Search.{GoesOn, IsFound, accepts_at, pairs_on, pairs_at};
-ghost use Rattle.preempt.specs.Shelves.{IsStock, IsWanted};
+ghost use Rattle.preempt.specs.Shelves.{IsSnapshot, IsWanted};
 
-use crate::chance::may_any_take;
 use crate::entry::{Entry, Need, Sums};
+use crate::machine_grants::{groups_of, machine_grants_of};
 use crate::need::{is_guaranteed, need_of, victims_for, waiting_of};
 use crate::parts::Parts;
 use crate::plan::{Plan, Victims};
+use crate::quick_reject::may_any_take;
 use crate::room::{Rooms, is_within, place_for, rooms_of};
-use crate::shelf::{groups_of, shelf_of};
-use crate::stock::{Stock, entries_on, free_of, has_any_on, open_rows};
+use crate::snapshot::{Snapshot, entries_on, free_of, has_any_on, open_rows};
 use crate::victims::Scratch;
 use crate::walk::{by_priority, counts_of, holders_of, priorities_of};
+use cluster_desc::Group;
 use fuxi_terms::OutOfMemory;
 use grant_table::{Asking, GrantTable, Pick, Steps};
+use res_vector::zero;
 use schedule_unit::MachineNo;
 use std::alloc::Global;
 use std::sync::ledger::Ledger;
@@ -50,7 +52,7 @@ fn plan_on<'a, P: Asking>(
     alloc: Global,
     table: &GrantTable,
     placer: &P,
-    stock: &Stock<'a>,
+    stock: &Snapshot<'a>,
     e: &Entry<'_>,
     need: &Need,
     machine: MachineNo,
@@ -58,16 +60,16 @@ fn plan_on<'a, P: Asking>(
 ) -> Result<Option<Plan>, OutOfMemory>
     requires entry { IsEntry table.now e.now }
     requires machine { machine.0 < length table.now.cluster.machines }
-    requires stock { IsStock table.now stock.now }
+    requires stock { IsSnapshot table.now stock.now }
     requires wanted { IsWanted table.now e.now.app.0 e.now.unit.0 need.now }
     ensures { IfOk result (GoesOn table.now (P.usable placer.now) (pair_of e.now) machine.0) }
 {
-    let _cluster = table.cluster();
+    table.is_sound();
     if !accepts(table, placer, e, machine) {
         return Ok(None);
     }
     let entries = entries_on(alloc, table, stock, machine)?;
-    let shelf = shelf_of(table, stock, &entries, machine);
+    let shelf = machine_grants_of(table, stock, &entries, machine);
     match victims_for(alloc, need, e, &shelf, stock.groups, scratch)? {
         Some(victims) => {
             let pick = Pick {
@@ -87,13 +89,13 @@ fn first_machine<'a, P: Asking>(
     alloc: Global,
     table: &GrantTable,
     placer: &P,
-    stock: &Stock<'a>,
+    stock: &Snapshot<'a>,
     e: &Entry<'_>,
     need: &Need,
     scratch: &mut Scratch<'a>,
 ) -> Result<Option<Plan>, OutOfMemory>
     requires entry { IsEntry table.now e.now }
-    requires stock { IsStock table.now stock.now }
+    requires stock { IsSnapshot table.now stock.now }
     requires wanted { IsWanted table.now e.now.app.0 e.now.unit.0 need.now }
     ensures { IfOk result (IsFound table.now (P.usable placer.now) (pairs_on table.now (P.usable placer.now) (pair_of e.now))) }
 {
@@ -127,21 +129,21 @@ fn first_within<'a, P: Asking>(
     alloc: Global,
     table: &GrantTable,
     placer: &P,
-    stock: &Stock<'a>,
+    stock: &Snapshot<'a>,
     rooms: &[Sums],
     e: &Entry<'_>,
     need: &Need,
     scratch: &mut Scratch<'a>,
 ) -> Result<Option<Plan>, OutOfMemory>
     requires entry { IsEntry table.now e.now }
-    requires stock { IsStock table.now stock.now }
+    requires stock { IsSnapshot table.now stock.now }
     requires wanted { IsWanted table.now e.now.app.0 e.now.unit.0 need.now }
     requires rooms { AreRoomsFor table.now need.now rooms.now }
     ensures { IfOk result (IsFound table.now (P.usable placer.now) (pairs_on table.now (P.usable placer.now) (pair_of e.now))) }
 {
     let cluster = table.cluster();
     for number in 0..cluster.machines() {
-        if is_beyond(rooms, need, e.size, number) {
+        if is_beyond(rooms, need, &e.size.q, number) {
             continue;
         }
         let machine = MachineNo(number);
@@ -158,19 +160,19 @@ fn plan_within<'a, P: Asking>(
     alloc: Global,
     table: &GrantTable,
     placer: &P,
-    stock: &Stock<'a>,
+    stock: &Snapshot<'a>,
     rooms: &Rooms,
     e: &Entry<'_>,
     scratch: &mut Scratch<'a>,
 ) -> Result<Option<Plan>, OutOfMemory>
     requires entry { IsEntry table.now e.now }
-    requires stock { IsStock table.now stock.now }
+    requires stock { IsSnapshot table.now stock.now }
     requires rooms { AreRooms table.now rooms.now }
     requires kind { IsKindOf table.now e.now rooms.now }
     ensures { IfOk result (IsFound table.now (P.usable placer.now) (pairs_on table.now (P.usable placer.now) (pair_of e.now))) }
 {
     let resources = table.cluster().resources() as usize;
-    if !is_within(resources, e.size, &rooms.widest) {
+    if !is_within(resources, &e.size.q, &rooms.widest) {
         return Ok(None);
     }
     match need_of(table, &stock.groups[e.group], e) {
@@ -184,14 +186,14 @@ fn plan_with_rooms<'a, P: Asking>(
     alloc: Global,
     table: &GrantTable,
     placer: &P,
-    stock: &Stock<'a>,
+    stock: &Snapshot<'a>,
     e: &Entry<'_>,
     need: &Need,
     kinds: &mut Vec<Rooms>,
     scratch: &mut Scratch<'a>,
 ) -> Result<Option<Plan>, OutOfMemory>
     requires entry { IsEntry table.now e.now }
-    requires stock { IsStock table.now stock.now }
+    requires stock { IsSnapshot table.now stock.now }
     requires wanted { IsWanted table.now e.now.app.0 e.now.unit.0 need.now }
     requires kinds { AllByRecursion (AreRooms table.now) kinds.old.items }
     ensures found { IfOk result (IsFound table.now (P.usable placer.now) (pairs_on table.now (P.usable placer.now) (pair_of e.now))) }
@@ -209,19 +211,19 @@ fn unit_plan<'a, P: Asking>(
     alloc: Global,
     table: &GrantTable,
     placer: &P,
-    stock: &Stock<'a>,
+    stock: &Snapshot<'a>,
     e: &Entry<'_>,
     tried: &mut [bool; 32],
     kinds: &mut Vec<Rooms>,
     scratch: &mut Scratch<'a>,
 ) -> Result<Option<Plan>, OutOfMemory>
     requires entry { IsEntry table.now e.now }
-    requires stock { IsStock table.now stock.now }
+    requires stock { IsSnapshot table.now stock.now }
     requires kinds { AllByRecursion (AreRooms table.now) kinds.old.items }
     ensures found { IfOk result (IsFound table.now (P.usable placer.now) (pairs_on table.now (P.usable placer.now) (pair_of e.now))) }
     ensures kinds { OnOk result (AllByRecursion (AreRooms table.now) kinds.new.items) }
 {
-    let _cluster = table.cluster();
+    table.is_sound();
     let group = &stock.groups[e.group];
     let guaranteed = is_guaranteed(table, group, e);
     if let Some(at) = place_for(kinds, e.group, e.priority, guaranteed) {
@@ -243,13 +245,13 @@ fn first_unit<'a, P: Asking>(
     alloc: Global,
     table: &GrantTable,
     placer: &P,
-    stock: &Stock<'a>,
+    stock: &Snapshot<'a>,
     waiting: &[Entry<'_>],
     priority: u8,
     scratch: &mut Scratch<'a>,
 ) -> Result<Option<Plan>, OutOfMemory>
     requires entries { AllByRecursion (IsEntry table.now) waiting.now }
-    requires stock { IsStock table.now stock.now }
+    requires stock { IsSnapshot table.now stock.now }
     ensures { IfOk result (IsFound table.now (P.usable placer.now) (pairs_at table.now (P.usable placer.now) priority (map pair_of waiting.now))) }
 {
     let mut kinds = Vec::new(alloc);
@@ -273,11 +275,11 @@ fn first_of_all<P: Asking>(
     alloc: Global,
     table: &GrantTable,
     placer: &P,
-    stock: &Stock<'_>,
+    stock: &Snapshot<'_>,
     waiting: &[Entry<'_>],
 ) -> Result<Option<Plan>, OutOfMemory>
     requires entries { AllByRecursion (IsEntry table.now) waiting.now }
-    requires stock { IsStock table.now stock.now }
+    requires stock { IsSnapshot table.now stock.now }
     ensures { IfOk result (IsFound table.now (P.usable placer.now) (flat_map (λ n. pairs_at table.now (P.usable placer.now) n (map pair_of waiting.now)) falling_priorities)) }
 {
     let mut scratch = Scratch {
@@ -323,7 +325,10 @@ pub fn find<P: Asking, L: Ledger>(
     if placer.waiting_len() == 0 {
         return Ok(None);
     }
-    let nothing = [0; 8];
+    let nothing = Group {
+        quota: zero(),
+        limit: zero(),
+    };
     let groups = groups_of(alloc, table, &nothing)?;
     let units = holders_of(alloc, table)?;
     let line = waiting_of(alloc, table, placer)?;
@@ -333,7 +338,7 @@ pub fn find<P: Asking, L: Ledger>(
     let holders = by_priority(alloc, &units)?;
     let counts = counts_of(alloc, table, &holders)?;
     let free = free_of(alloc, table, steps)?;
-    let stock = Stock {
+    let stock = Snapshot {
         groups: &groups,
         holders: &holders,
         counts: &counts,

@@ -3,7 +3,7 @@
 ghost use Rattle.std.specs.Prelude.{◌≡◌, ℕ, ◌+◌, ◌*◌, ◌^◌, ◌<◌, ◌≤◌, IfOk, OnOk, IfSome, filter, map, Some, None, MatchOption, length};
 ghost use Rattle.std.specs.List.{All, AllByRecursion, list_any};
 ghost use Rattle.fuxi_terms.specs.Keys.{Spot};
-ghost use Rattle.written_roles.specs.Preemption.{victims_in};
+ghost use Rattle.spec_roles.specs.Preemption.{victims_in};
 ghost use Rattle.grant_table.specs.GrantTables.{TableRecord, IsSound};
 ghost use Rattle.preempt.specs.Given.{AreGiven, IsTaken, IsKept, IsEntry, IsNeed, board_of, victim_of};
 ghost use Rattle.preempt.specs.Plans.{AreTakable, losers_of};
@@ -61,8 +61,8 @@ fn take_all<'a>(
         if count == 0 {
             continue;
         }
-        all = raised(&all, e.size, count);
-        parts.put(e.group, raised(&part, e.size, count))?;
+        all = raised(&all, &e.size.q, count);
+        parts.put(e.group, raised(&part, &e.size.q, count))?;
     }
     Ok(Taken {
         all,
@@ -86,12 +86,12 @@ fn keep_needed<'a>(
     let mut all = taken.all;
     let mut own = taken.own;
     for e in set {
-        let rest = lowered(&all, e.size, e.count);
-        let own_rest = lowered(&own, e.size, count_if(e.group == need.group, e.count));
+        let rest = lowered(&all, &e.size.q, e.count);
+        let own_rest = lowered(&own, &e.size.q, count_if(e.group == need.group, e.count));
         let count = needed_number(need, &rest, &own_rest, e, e.count);
         kept.push(recounted(e, count))?;
-        all = raised(&rest, e.size, count);
-        own = raised(&own_rest, e.size, count_if(e.group == need.group, count));
+        all = raised(&rest, &e.size.q, count);
+        own = raised(&own_rest, &e.size.q, count_if(e.group == need.group, count));
     }
     Ok(kept)
 }

@@ -6,7 +6,7 @@ ghost use Rattle.std.specs.List.{All, AllByRecursion};
 ghost use Rattle.fuxi_terms.specs.Cluster.{JobRecord};
 ghost use Rattle.grant_table.specs.GrantTables.{TableRecord, IsSound};
 ghost use Rattle.preempt.specs.Given.{IsEntry, pair_of};
-ghost use Rattle.preempt.specs.Shelves.{AreHolders, AreRead, IsListed};
+ghost use Rattle.preempt.specs.Shelves.{AreHolders, AreRead, HoldsSome, IsListed};
 ghost use Rattle.preempt.specs.Walks.{HasItsPriority, holds_some, units_in, backward, of_priority, entries_by_priority};
 
 use crate::entry::{Entry, recounted};
@@ -28,7 +28,7 @@ pub(crate) fn entry_of<'a>(job: &'a Job, unit: UnitNo) -> Entry<'a>
         group: job.group().0 as usize,
         priority: asked.priority,
         count: 0,
-        size: &asked.size.q,
+        size: &asked.size,
     }
 }
 
@@ -42,7 +42,7 @@ fn push_holders<'a>(
     ensures pairs { OnOk result ((j : JobRecord) → slice_get table.now.jobs index ≡ Some j → map pair_of holders.new.items ≡ map pair_of holders.old.items ++ filter (holds_some table.now.entries) (units_in j (length j.units))) }
     ensures entries { OnOk result (AllByRecursion (IsEntry table.now) holders.old.items → AllByRecursion (IsEntry table.now) holders.new.items) }
 {
-    let _cluster = table.cluster();
+    table.is_sound();
     let job = table.job(index);
     for number in 0..job.units() {
         let unit = UnitNo(number);
@@ -60,9 +60,10 @@ pub(crate) fn holders_of<'a>(
     table: &'a GrantTable,
 ) -> Result<Vec<Entry<'a>>, OutOfMemory>
     ensures each { IfOk result (λ holders. AllByRecursion (IsEntry table.now) holders.items) }
+    ensures some { IfOk result (λ holders. AllByRecursion (HoldsSome table.now) holders.items) }
     ensures holders { IfOk result (λ holders. AreHolders table.now (entries_by_priority holders.items 10)) }
 {
-    let _cluster = table.cluster();
+    table.is_sound();
     // Mostly that is enough, so that the list does not grow.
     let mut holders = Vec::with_capacity(alloc, 2 * table.jobs() as usize)?;
     for index in 0..table.jobs() {

@@ -1,7 +1,7 @@
 -- What a function answers, from the one step that it is made of.
 use Rattle.std.proofs.Common.{◌≡◌, ℕ, List, Result, Ok, Err, sym, subst}
 use Rattle.std.specs.Prelude.{OnOk, IfErr}
-use Rattle.written_world.specs.World.{World, Step}
+use Rattle.spec_world.specs.World.{World, Step}
 use Rattle.schedule_replay.specs.declared.stop.WorldStop.{WorldStop}
 use Rattle.schedule_replay.specs.Worlds.{WorldRecord, IsWorld, StandsFor}
 use Rattle.schedule_replay.specs.WorldSteps.{IsDone, Stops, limit_of}

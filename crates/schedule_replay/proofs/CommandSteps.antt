@@ -5,15 +5,15 @@ use Rattle.std.specs.FinMap.Entries.{find}
 use Rattle.fuxi_terms.specs.Cluster.{ClusterRecord}
 use Rattle.fuxi_terms.specs.Counts.{then_do}
 use Rattle.fuxi_terms.specs.Limits.{most_masters}
-use Rattle.written_net.specs.Channels.{master_id, party}
-use Rattle.written_roles.specs.Refusals.{Refusal, NotRunning, TooManyMasters, first_refusal, with_found}
-use Rattle.written_roles.specs.HardState.{HardState, HardEvent, Raise, hard_step, is_not_rising}
-use Rattle.written_roles.specs.Masters.{Master}
-use Rattle.written_roles.specs.MasterSteps.{Changed, Commanded, MasterChange, MasterCommand, change_of, changes, command_of, writes}
-use Rattle.written_world.specs.World.{World, Step, on_result, prints_nothing, refused}
-use Rattle.written_world.specs.Parties.{end_step}
-use Rattle.written_world.specs.Events.{commanded, start_master}
-use Rattle.written_join.specs.PartyJoins.{master_starts}
+use Rattle.spec_net.specs.Channels.{master_id, party}
+use Rattle.spec_roles.specs.Refusals.{Refusal, NotRunning, TooManyMasters, first_refusal, with_found}
+use Rattle.spec_roles.specs.HardState.{HardState, HardEvent, Raise, hard_step, is_not_rising}
+use Rattle.spec_roles.specs.Masters.{Master}
+use Rattle.spec_roles.specs.MasterSteps.{Changed, Commanded, MasterChange, MasterCommand, change_of, changes, command_of, writes}
+use Rattle.spec_world.specs.World.{World, Step, on_result, prints_nothing, refused}
+use Rattle.spec_world.specs.Parties.{end_step}
+use Rattle.spec_world.specs.Events.{commanded, start_master}
+use Rattle.spec_refinement.specs.PartyJoins.{master_starts}
 
 -- A test that passes
 pub none_before : (t : Bool × Refusal) (ts : List (Bool × Refusal)) → t.0 ≡ false → first_refusal (t ∷ ts) ≡ first_refusal ts
@@ -22,7 +22,7 @@ none_before (false, r) ts e = refl
 
 -- What a command does where the master runs
 abbrev pub told_step : World → Result Commanded Refusal → Step
-told_step w r = on_result w r (λ k. prints_nothing (end_step (record w { hard = k.hard }) w.net k.change.state k.change.forced))
+told_step w r = on_result w r (λ k. prints_nothing (end_step (record w { hard = k.hard }) w.net k.change.state k.change.even_if_equal))
 
 pub told_is : (w : World) (e : ℕ) (x : MasterCommand) (M : Master) → find nat_cmp e w.masters ≡ Some M → commanded w e x ≡ told_step w (command_of w.cluster w.hard M x)
 told_is w e x M runs = ap (λ o. with_found o (refused w NotRunning) (λ M. told_step w (command_of w.cluster w.hard M x))) runs

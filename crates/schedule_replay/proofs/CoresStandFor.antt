@@ -2,19 +2,19 @@
 use Rattle.std.proofs.Common.{◌≡◌, ℕ, cond, nat_eq, Some, sym, ap, subst}
 use Rattle.delta_channel.specs.declared.receiver.Place.{Place}
 use Rattle.fuxi_terms.specs.Cluster.{ClusterRecord}
-use Rattle.written_net.specs.Net.{Net}
-use Rattle.written_net.specs.Ledgers.{Ledger}
-use Rattle.written_net.specs.Channels.{master_id, agent_id, party}
-use Rattle.written_world.specs.World.{World}
-use Rattle.written_world.specs.Parties.{agent_table}
-use Rattle.written_world.specs.Safe.{Safe, RowsFit}
-use Rattle.written_join.specs.SeenWorlds.{side_of}
+use Rattle.spec_net.specs.Net.{Net}
+use Rattle.spec_net.specs.Ledgers.{Ledger}
+use Rattle.spec_net.specs.Channels.{master_id, agent_id, party}
+use Rattle.spec_world.specs.World.{World}
+use Rattle.spec_world.specs.Parties.{agent_table}
+use Rattle.spec_world.specs.Safe.{Safe, RowsFit}
+use Rattle.spec_refinement.specs.SeenWorlds.{side_of}
 use Rattle.agent_core.specs.AgentCores.{AgentCore, Up, IsUp, table_in}
 use Rattle.app_master.specs.AppCores.{AppCore}
 use Rattle.fuxi_master.specs.Cores.{MasterRecord}
-use Rattle.party_slots.specs.Slots.{SlotsRecord, slot_at}
-use Rattle.party_slots.specs.RunningMasters.{AreMastersOf, MasterAt, MasterRunsAs}
-use Rattle.party_slots.specs.Peers.{AreAgentsOf, AreAppsOf, AgentAt, AppAt, AgentRunsAs, AppRunsAs}
+use Rattle.running_parties.specs.Slots.{SlotsRecord, slot_at}
+use Rattle.running_parties.specs.RunningMasters.{AreMastersOf, MasterAt, MasterRunsAs}
+use Rattle.running_parties.specs.Peers.{AreAgentsOf, AreAppsOf, AgentAt, AppAt, AgentRunsAs, AppRunsAs}
 use Rattle.schedule_replay.specs.Worlds.{WorldRecord, StandsFor}
 use Rattle.schedule_replay.specs.Promises.{TablesFit}
 

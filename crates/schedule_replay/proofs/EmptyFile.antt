@@ -1,6 +1,6 @@
 -- What an empty file stands for.
 use Rattle.std.proofs.Common.{◌≡◌, ℕ, List, [], ◌∷◌, Result, Ok, Err, IfOk}
-use Rattle.written_roles.specs.HardState.{HardState, empty_hard}
+use Rattle.spec_roles.specs.HardState.{HardState, empty_hard}
 use Rattle.hard_state.specs.HardFiles.{records_of}
 use Rattle.schedule_replay.specs.Held.{Held}
 

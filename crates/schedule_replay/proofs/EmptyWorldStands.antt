@@ -1,15 +1,15 @@
 -- What runs at the start stands for the empty world.
 use Rattle.std.proofs.Common.{◌≡◌, ◌*◌, true, [], refl, sym, subst}
 use Rattle.fuxi_terms.specs.Cluster.{ClusterRecord, is_valid_cluster}
-use Rattle.written_roles.specs.HardState.{empty_hard}
-use Rattle.written_world.specs.World.{empty_world}
-use Rattle.written_world.specs.Good.{Good}
-use Rattle.written_world.specs.Orders.{IsInOrder}
-use Rattle.packet_pool.specs.PacketPools.{Keeps, no_frames}
+use Rattle.spec_roles.specs.HardState.{empty_hard}
+use Rattle.spec_world.specs.World.{empty_world}
+use Rattle.spec_world.specs.Good.{Good}
+use Rattle.spec_world.specs.Orders.{IsInOrder}
+use Rattle.schedule_replay.specs.PacketPools.{Keeps, no_frames}
 use Rattle.schedule_replay.specs.Held.{IsOpen}
-use Rattle.party_slots.specs.Slots.{AreWithin as PartiesWithin}
-use Rattle.party_slots.specs.Peers.{AreAgentsOf, AreAppsOf, agent_steps, app_steps}
-use Rattle.party_slots.specs.RunningMasters.{AreMastersOf, master_steps}
+use Rattle.running_parties.specs.Slots.{AreWithin as PartiesWithin}
+use Rattle.running_parties.specs.Peers.{AreAgentsOf, AreAppsOf, agent_steps, app_steps}
+use Rattle.running_parties.specs.RunningMasters.{AreMastersOf, master_steps}
 use Rattle.schedule_replay.specs.Worlds.{WorldRecord, IsReached, IsWorld, StandsFor, AreWithin, event_steps}
 
 pub is_empty_world : (c : ClusterRecord) → is_valid_cluster c ≡ true → Good (empty_world c) → IsInOrder (empty_world c) → IsWorld (empty_world c)

@@ -4,11 +4,11 @@ use Rattle.fuxi_terms.proofs.Booleans.{and_true, nat_itself}
 use Rattle.delta_channel.specs.declared.receiver.Place.{Place}
 use Rattle.delta_channel.specs.Standing.{Sending}
 use Rattle.delta_channel.specs.Hearing.{Receiving}
-use Rattle.channel_join.specs.Alike.{place_at}
-use Rattle.written_net.specs.Net.{Net, Party, last}
-use Rattle.written_net.specs.Ledgers.{Ledger}
-use Rattle.written_net.specs.Channels.{party, view, present, is_caught_up}
-use Rattle.written_world.specs.Safe.{Views}
+use Rattle.channel_refinement.specs.Alike.{place_at}
+use Rattle.spec_net.specs.Net.{Net, Party, last}
+use Rattle.spec_net.specs.Ledgers.{Ledger}
+use Rattle.spec_net.specs.Channels.{party, view, present, is_caught_up}
+use Rattle.spec_world.specs.Safe.{Views}
 use Rattle.schedule_replay.specs.Promises.{Follows}
 
 -- the receiver p has this place in what s sends, and what it received and what s shows are read of the ledgers in one way

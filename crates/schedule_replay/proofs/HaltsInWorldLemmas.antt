@@ -5,24 +5,24 @@ use Rattle.std.specs.Ordering.{nat_cmp}
 use Rattle.std.specs.FinMap.Entries.{find}
 use Rattle.std.proofs.lemmas.Bool.Decides.{nat_tests}
 use Rattle.fuxi_terms.proofs.Booleans.{both_true, same_tests}
-use Rattle.written_roles.specs.HardState.{HardState, HardEvent, Raise, Submission, Finishing, Banning, Unbanning, hard_step}
-use Rattle.written_roles.specs.Masters.{Master}
-use Rattle.written_roles.specs.MasterSteps.{Changed, MasterChange, MasterCommand, Admits, Ends, Bans, Unbans, change_of, command_of, writes}
-use Rattle.written_roles.specs.Refusals.{Refusal as WrittenRefusal}
-use Rattle.written_world.specs.Outputs.{Halted}
-use Rattle.written_world.specs.World.{World, Step, prints_nothing, refused}
-use Rattle.written_world.specs.Events.{Event, Halt, act, commanded, halted, is_written, start_master, without_master, writer_of}
+use Rattle.spec_roles.specs.HardState.{HardState, HardEvent, Raise, Submission, Finishing, Banning, Unbanning, hard_step}
+use Rattle.spec_roles.specs.Masters.{Master}
+use Rattle.spec_roles.specs.MasterSteps.{Changed, MasterChange, MasterCommand, Admits, Ends, Bans, Unbans, change_of, command_of, writes}
+use Rattle.spec_roles.specs.Refusals.{Refusal as WrittenRefusal}
+use Rattle.spec_world.specs.Outputs.{Halted}
+use Rattle.spec_world.specs.World.{World, Step, prints_nothing, refused}
+use Rattle.spec_world.specs.Events.{Event, Halt, act, commanded, halted, is_written, start_master, without_master, writer_of}
 use Rattle.hard_state.specs.HardFiles.{Refuses}
 use Rattle.hard_state.specs.declared.fault.HardFault.{HardFault}
 use Rattle.hard_state.specs.declared.fault.HardFault.TheVariants.{OutOfMemory}
-use Rattle.party_orders.specs.OrderedParties.{done_by, written_for}
+use Rattle.party_commands.specs.CommandedParties.{done_by, written_for}
 use Rattle.schedule_replay.specs.Held.{Held, IsOpen}
 use Rattle.schedule_replay.specs.Writings.{IsLeft, counts_after}
 use Rattle.fuxi_master.specs.Cores.{MasterRecord}
 use Rattle.fuxi_master.specs.declared.event.MasterEvent.{MasterEvent}
 use Rattle.fuxi_master.specs.declared.event.MasterEvent.TheVariants as event
-use Rattle.party_slots.specs.Slots.{SlotsRecord}
-use Rattle.party_slots.specs.RunningMasters.{AreMastersOf}
+use Rattle.running_parties.specs.Slots.{SlotsRecord}
+use Rattle.running_parties.specs.RunningMasters.{AreMastersOf}
 use Rattle.schedule_text.specs.declared.event.Event.{Event as LineEvent}
 use Rattle.schedule_text.specs.declared.refusal.Refusal.{Refusal}
 use Rattle.schedule_text.specs.declared.output.Output.{Output}

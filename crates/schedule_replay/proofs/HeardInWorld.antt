@@ -12,20 +12,20 @@ use Rattle.party_ledgers.specs.PacketHeaders.{header_of}
 use Rattle.party_ledgers.specs.declared.header.Header.{Header}
 use Rattle.party_ledgers.specs.declared.packets.Packet.{Packet}
 use Rattle.party_ledgers.specs.declared.packets.Heard.{Heard}
-use Rattle.core_side.specs.Parcels.{id_of, parcel_is}
-use Rattle.written_net.specs.Net.{Net, Packet as WrittenPacket, Heard as WrittenHeard}
-use Rattle.written_net.specs.Ledgers.{Ledger}
-use Rattle.written_net.specs.Sides.{Parcel}
-use Rattle.written_world.specs.World.{World}
-use Rattle.written_world.specs.Good.{Good}
-use Rattle.written_world.specs.Outputs.{Came}
-use Rattle.written_world.specs.Events.{addressed, heard_by, heard_line}
-use Rattle.written_join.specs.SeenWorlds.{parcel_of}
-use Rattle.written_join.specs.Leading.{AllLead}
-use Rattle.written_parties.specs.SeenParties.{Kind, IsFor, Role as SeenRole}
-use Rattle.party_slots.specs.Slots.{SlotsRecord, AreWithin as PartiesWithin, HearInWorld, HearsOneIn}
+use Rattle.peer_channel.specs.Parcels.{id_of, parcel_is}
+use Rattle.spec_net.specs.Net.{Net, Packet as WrittenPacket, Heard as WrittenHeard}
+use Rattle.spec_net.specs.Ledgers.{Ledger}
+use Rattle.spec_net.specs.Sides.{Parcel}
+use Rattle.spec_world.specs.World.{World}
+use Rattle.spec_world.specs.Good.{Good}
+use Rattle.spec_world.specs.Outputs.{Came}
+use Rattle.spec_world.specs.Events.{addressed, heard_by, heard_line}
+use Rattle.spec_refinement.specs.SeenWorlds.{parcel_of}
+use Rattle.spec_refinement.specs.Leading.{AllLead}
+use Rattle.spec_refinement.specs.SeenParties.{Kind, IsFor, Role as SeenRole}
+use Rattle.running_parties.specs.Slots.{SlotsRecord, AreWithin as PartiesWithin, HearInWorld, HearsOneIn}
 use Rattle.schedule_replay.specs.Worlds.{WorldRecord, StandsFor}
-use Rattle.party_orders.specs.OrderedParties.{kind_named}
+use Rattle.party_commands.specs.CommandedParties.{kind_named}
 use Rattle.schedule_replay.specs.Moves.{IsPart, IsHeardBy, IsHeardIn, HearsIn, heard_lines}
 
 -- In a good world on a valid cluster all lead, as the law of changes states it

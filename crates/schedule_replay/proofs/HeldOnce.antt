@@ -13,19 +13,19 @@ use Rattle.fuxi_terms.specs.Keys.{key_cmp}
 use Rattle.fuxi_terms.specs.Lists.{below}
 use Rattle.fuxi_terms.specs.TallyKeys.{count_key}
 use Rattle.delta_channel.specs.declared.receiver.Place.{Place}
-use Rattle.written_net.specs.Ledgers.{Ledger, at_key}
-use Rattle.written_net.specs.Channels.{master_id, app_id, party}
-use Rattle.written_roles.specs.HardState.{HardState}
-use Rattle.written_roles.specs.Apps.{AppRole, Carried, names, uncredited, usable_of, held_by}
-use Rattle.written_world.specs.World.{World, App}
-use Rattle.written_world.specs.Good.{Good}
-use Rattle.written_world.specs.Safe.{Safe, grants_at, units_total_at}
-use Rattle.written_net.specs.Sides.{shown}
-use Rattle.written_join.specs.SeenWorlds.{app_seen}
-use Rattle.core_side.specs.Bodies.{tally_of}
+use Rattle.spec_net.specs.Ledgers.{Ledger, at_key}
+use Rattle.spec_net.specs.Channels.{master_id, app_id, party}
+use Rattle.spec_roles.specs.HardState.{HardState}
+use Rattle.spec_roles.specs.Apps.{AppRole, Carried, names, uncredited, usable_of, held_by}
+use Rattle.spec_world.specs.World.{World, App}
+use Rattle.spec_world.specs.Good.{Good}
+use Rattle.spec_world.specs.Safe.{Safe, grants_at, units_total_at}
+use Rattle.spec_net.specs.Sides.{shown}
+use Rattle.spec_refinement.specs.SeenWorlds.{app_seen}
+use Rattle.peer_channel.specs.Bodies.{tally_of}
 use Rattle.app_master.specs.AppCores.{AppCore, StandsFor as AppStandsFor}
 use Rattle.app_master.specs.Usable.{is_named, carried_at}
-use Rattle.party_slots.specs.Slots.{slot_at}
+use Rattle.running_parties.specs.Slots.{slot_at}
 use Rattle.schedule_replay.specs.Worlds.{WorldRecord, StandsFor}
 use Rattle.schedule_replay.specs.CoreReads.{held_now}
 use Rattle.schedule_replay.specs.Promises.{IsOfOneEntry, AllHeldOnce}

@@ -11,20 +11,20 @@ use Rattle.fuxi_terms.specs.Lists.{below}
 use Rattle.fuxi_terms.proofs.Booleans.{and_true, both_true}
 use Rattle.fuxi_terms.proofs.Lists.{length-below}
 use Rattle.schedule_unit.specs.declared.party.MachineNo.{MachineNo}
-use Rattle.written_roles.specs.HardState.{HardState, is_fenced}
-use Rattle.written_roles.specs.Masters.{Master}
-use Rattle.written_roles.specs.MasterSteps.{BansMachine}
-use Rattle.written_roles.specs.Refusals.{NotRunning, Fenced, HardFull, with_found}
-use Rattle.written_roles.specs.Votes.{VotesRecord, judged, marks, votes_in, votes_of}
-use Rattle.written_world.specs.World.{World, Step, refused, then_step, unless_refused}
-use Rattle.written_world.specs.Events.{Ban, ban_each, commanded, is_too_full, judge}
-use Rattle.written_world.specs.EventRanges.{is_counted}
-use Rattle.written_world.specs.Outputs.{Judged}
+use Rattle.spec_roles.specs.HardState.{HardState, is_fenced}
+use Rattle.spec_roles.specs.Masters.{Master}
+use Rattle.spec_roles.specs.MasterSteps.{BansMachine}
+use Rattle.spec_roles.specs.Refusals.{NotRunning, Fenced, HardFull, with_found}
+use Rattle.spec_roles.specs.Votes.{VotesRecord, judged, marks, votes_in, votes_of}
+use Rattle.spec_world.specs.World.{World, Step, refused, then_step, unless_refused}
+use Rattle.spec_world.specs.Events.{Ban, ban_each, commanded, is_too_full, judge}
+use Rattle.spec_world.specs.EventRanges.{is_counted}
+use Rattle.spec_world.specs.Outputs.{Judged}
 use Rattle.bad_nodes.specs.Ranks.{number_of}
 use Rattle.schedule_replay.specs.Held.{Held}
 use Rattle.fuxi_master.specs.Cores.{CoreRecord, MasterRecord}
-use Rattle.party_slots.specs.Slots.{SlotsRecord}
-use Rattle.party_slots.specs.RunningMasters.{MasterRunsAs}
+use Rattle.running_parties.specs.Slots.{SlotsRecord}
+use Rattle.running_parties.specs.RunningMasters.{MasterRunsAs}
 use Rattle.schedule_text.specs.declared.refusal.Refusal.{Refusal}
 use Rattle.schedule_replay.specs.ReplayTexts.{lines_text}
 use Rattle.schedule_replay.specs.Worlds.{WorldRecord, IsWorld, StandsFor}

@@ -1,3 +1,14 @@
+pub mod FrameBytes
+pub mod FrameEndsLemmas
+pub mod FramesReadBack
+pub mod PacketPoolsLemmas
+pub mod FullPiecesLemmas
+mod Walks
+mod Loops
+mod Found
+mod Whole
+mod Lists
+mod Peers
 pub mod EmptyFile
 pub mod StopLeaves
 pub mod CommandSteps
@@ -26,3 +37,7 @@ pub mod HeldOnce
 pub mod ViewsFollow
 pub mod QuietPartiesAgree
 pub mod NothingIsPlaceable
+pub mod GivenLemmas
+pub mod ScheduleProgressLemmas
+pub mod ScheduleRunsLemmas
+pub mod ToldLemmas

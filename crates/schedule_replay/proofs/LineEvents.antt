@@ -8,8 +8,8 @@ use Rattle.schedule_text.specs.Halting.{anywhere, is_writing as is_writing_line}
 use Rattle.schedule_text.specs.Writing.{AreWithin, IsLineEvent, MayStop, saying_of}
 use Rattle.schedule_text.specs.declared.event.Event.{Event}
 use Rattle.schedule_text.specs.declared.event.Event.TheVariants as line
-use Rattle.written_world.specs.Events.{Halt, is_writing}
-use Rattle.written_world.specs.EventRanges.{is_from_line, is_counted}
+use Rattle.spec_world.specs.Events.{Halt, is_writing}
+use Rattle.spec_world.specs.EventRanges.{is_from_line, is_counted}
 use Rattle.schedule_replay.specs.LineEvents.{event_as}
 
 pub counted : (n : ℕ) → not (nat_eq n 0) ≡ true → is_counted n ≡ true

@@ -7,18 +7,18 @@ use Rattle.std.specs.Option.{option_copied, unwrap_or}
 use Rattle.std.proofs.lemmas.Bool.Decides.{nat_tests}
 use Rattle.std.proofs.lemmas.List.{length-map}
 use Rattle.fuxi_terms.specs.Limits.{most_masters}
-use Rattle.written_net.specs.Channels.{master_id, party}
-use Rattle.written_roles.specs.Refusals.{Refusal as WrittenRefusal, NotRunning, with_found}
-use Rattle.written_roles.specs.HardState.{HardState, Raise, hard_step}
-use Rattle.written_roles.specs.Masters.{Master}
-use Rattle.written_roles.specs.MasterSteps.{MasterCommand}
-use Rattle.written_world.specs.World.{World, Step, prints_nothing, refused}
-use Rattle.written_world.specs.Events.{commanded, start_master, stop_master, without_master}
-use Rattle.written_join.specs.PartyJoins.{master_starts}
+use Rattle.spec_net.specs.Channels.{master_id, party}
+use Rattle.spec_roles.specs.Refusals.{Refusal as WrittenRefusal, NotRunning, with_found}
+use Rattle.spec_roles.specs.HardState.{HardState, Raise, hard_step}
+use Rattle.spec_roles.specs.Masters.{Master}
+use Rattle.spec_roles.specs.MasterSteps.{MasterCommand}
+use Rattle.spec_world.specs.World.{World, Step, prints_nothing, refused}
+use Rattle.spec_world.specs.Events.{commanded, start_master, stop_master, without_master}
+use Rattle.spec_refinement.specs.PartyJoins.{master_starts}
 use Rattle.schedule_replay.specs.Held.{Held, IsOpen}
 use Rattle.fuxi_master.specs.Cores.{MasterRecord}
-use Rattle.party_slots.specs.Slots.{SlotsRecord, AreWithin, slot_at}
-use Rattle.party_slots.specs.RunningMasters.{AreMastersOf, AreMastersOver, CommandRefusedIn, MasterAt, MasterRunsAs, MasterStartInWorld, ObeyInWorld, ObeysOneIn, StopsIn, epochs_of, master_steps}
+use Rattle.running_parties.specs.Slots.{SlotsRecord, AreWithin, slot_at}
+use Rattle.running_parties.specs.RunningMasters.{AreMastersOf, AreMastersOver, CommandRefusedIn, MasterAt, MasterRunsAs, MasterStartInWorld, ObeyInWorld, ObeysOneIn, StopsIn, epochs_of, master_steps}
 use Rattle.schedule_text.specs.declared.refusal.Refusal.{Refusal}
 use Rattle.schedule_text.specs.declared.refusal.Refusal.TheVariants as why
 use Rattle.schedule_text.specs.Printing.{as_refusal}

@@ -1,10 +1,10 @@
 -- From what is done or refused by one party to the step of the world that it is.
 use Rattle.std.proofs.Common.{◌≡◌, ℕ, List, [], ◌++◌, Option, Some, None, Ok, sym, ◌∙◌, ap, subst}
-use Rattle.written_world.specs.World.{World, Step, refused}
+use Rattle.spec_world.specs.World.{World, Step, refused}
 use Rattle.schedule_replay.specs.Held.{Held, IsOpen}
 use Rattle.fuxi_master.specs.Cores.{MasterRecord}
-use Rattle.party_slots.specs.Slots.{SlotsRecord}
-use Rattle.party_slots.specs.RunningMasters.{AreMastersOf}
+use Rattle.running_parties.specs.Slots.{SlotsRecord}
+use Rattle.running_parties.specs.RunningMasters.{AreMastersOf}
 use Rattle.schedule_text.specs.declared.refusal.Refusal.{Refusal}
 use Rattle.schedule_text.specs.Printing.{as_refusal}
 use Rattle.schedule_replay.specs.ReplayTexts.{lines_text}

@@ -1,13 +1,13 @@
 -- How many steps cores took.
 use Rattle.std.proofs.Common.{ℕ, ◌+◌, ◌≤◌, refl, arith}
 use Rattle.schedule_replay.specs.Held.{Held}
-use Rattle.packet_pool.specs.PacketPools.{Stored}
+use Rattle.schedule_replay.specs.PacketPools.{Stored}
 use Rattle.agent_core.specs.AgentCores.{AgentCore}
 use Rattle.app_master.specs.AppCores.{AppCore}
-use Rattle.party_slots.specs.Slots.{SlotsRecord, AreWithin as PartiesWithin}
-use Rattle.party_slots.specs.Peers.{agent_steps, app_steps}
+use Rattle.running_parties.specs.Slots.{SlotsRecord, AreWithin as PartiesWithin}
+use Rattle.running_parties.specs.Peers.{agent_steps, app_steps}
 use Rattle.fuxi_master.specs.Cores.{MasterRecord}
-use Rattle.party_slots.specs.RunningMasters.{master_steps}
+use Rattle.running_parties.specs.RunningMasters.{master_steps}
 use Rattle.schedule_replay.specs.Worlds.{WorldRecord, AreWithin, event_steps}
 use Rattle.schedule_replay.specs.Moves.{MovesOnce, MovesUpTo}
 

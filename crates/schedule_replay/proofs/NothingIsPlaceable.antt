@@ -4,12 +4,12 @@ use Rattle.std.specs.Prelude.{◌&&◌}
 use Rattle.fuxi_terms.specs.Jobs.{group_of, size_at, most_of}
 use Rattle.fuxi_terms.specs.Numbers.{has_number}
 use Rattle.fuxi_terms.specs.Tables.{held, held_on}
-use Rattle.written_roles.specs.Masters.{out, out_of}
-use Rattle.written_roles.specs.MasterRoles.{MasterRole}
-use Rattle.written_roles.specs.Placing.{has_pair, placeable, is_allowed_in, has_room_in}
-use Rattle.written_world.specs.World.{World}
-use Rattle.written_world.specs.Good.{Good}
-use Rattle.written_world.specs.Safe.{Safe}
+use Rattle.spec_roles.specs.Masters.{out, out_of}
+use Rattle.spec_roles.specs.MasterRoles.{MasterRole}
+use Rattle.spec_roles.specs.Placing.{has_pair, placeable, is_allowed_in, has_room_in}
+use Rattle.spec_world.specs.World.{World}
+use Rattle.spec_world.specs.Good.{Good}
+use Rattle.spec_world.specs.Safe.{Safe}
 use Rattle.place_pass.specs.Placers.{asks_seen}
 use Rattle.fuxi_master.specs.Cores.{CoreRecord, StandsFor as MasterStandsFor}
 use Rattle.schedule_replay.specs.Worlds.{WorldRecord, StandsFor}

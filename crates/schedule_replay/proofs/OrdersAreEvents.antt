@@ -1,14 +1,14 @@
 -- An event that is an order does in a world what the order is.
 use Rattle.std.proofs.Common.{◌≡◌, Some, refl, subst}
 use Rattle.std.specs.Prelude.{IfSome}
-use Rattle.written_world.specs.World.{World}
-use Rattle.written_world.specs.Events.{act}
-use Rattle.party_orders.specs.PartyOrders.{Order, order_of, step_of}
+use Rattle.spec_world.specs.World.{World}
+use Rattle.spec_world.specs.Events.{act}
+use Rattle.party_commands.specs.PartyCommands.{PartyCommand, command_of, step_of}
 use Rattle.schedule_text.specs.declared.event.Event.{Event}
 use Rattle.schedule_text.specs.declared.event.Event.TheVariants as line
 use Rattle.schedule_replay.specs.LineEvents.{event_as}
 
-by_event : (w : World) (e : Event) → IfSome (order_of e) (λ o. act w (event_as e) ≡ step_of w o)
+by_event : (w : World) (e : Event) → IfSome (command_of e) (λ o. act w (event_as e) ≡ step_of w o)
 by_event w (line.Master e) = tt
 by_event w (line.Stop e) = tt
 by_event w (line.Agent m b) = tt
@@ -37,5 +37,5 @@ by_event w (line.Dump k) = tt
 by_event w line.Show = tt
 by_event w (line.Halt' calls all p x) = tt
 
-pub ordered : (w : World) (e : Event) (o : Order) → order_of e ≡ Some o → act w (event_as e) ≡ step_of w o
+pub ordered : (w : World) (e : Event) (o : PartyCommand) → command_of e ≡ Some o → act w (event_as e) ≡ step_of w o
 ordered w e o is = subst (λ s. IfSome s (λ o. act w (event_as e) ≡ step_of w o)) is (by_event w e)

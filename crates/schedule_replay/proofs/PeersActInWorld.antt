@@ -8,16 +8,16 @@ use Rattle.fuxi_terms.specs.Jobs.{KnownJob, job_of, is_known, has_ended, unit_co
 use Rattle.fuxi_terms.specs.Padded.{padded}
 use Rattle.cluster_desc.specs.Records.{machine_of as machine_seen}
 use Rattle.cluster_desc.specs.declared.cluster.Machine.{Machine}
-use Rattle.written_net.specs.Channels.{agent_id, app_id}
-use Rattle.written_roles.specs.Refusals.{Refusal as Written, NoMachine, NoJob, Ended, NotRising}
-use Rattle.written_world.specs.World.{World, Step, refused, prints_nothing, unless_refused}
-use Rattle.written_world.specs.Events.{asks, start_agent, agent_started, start_app, app_started}
+use Rattle.spec_net.specs.Channels.{agent_id, app_id}
+use Rattle.spec_roles.specs.Refusals.{Refusal as Written, NoMachine, NoJob, Ended, NotRising}
+use Rattle.spec_world.specs.World.{World, Step, refused, prints_nothing, unless_refused}
+use Rattle.spec_world.specs.Events.{asks, start_agent, agent_started, start_app, app_started}
 use Rattle.agent_core.specs.AgentCores.{AgentCore}
 use Rattle.app_master.specs.AppCores.{AppCore}
-use Rattle.written_parties.specs.SeenParties.{Kind, Role, agent_starting, app_starting}
-use Rattle.party_slots.specs.Slots.{SlotsRecord, AreWithin as PartiesWithin, StepIn}
-use Rattle.party_slots.specs.Peers.{AgentStartsIn, AppStartsIn, AsksOneIn, AskInWorld, app_steps}
-use Rattle.written_roles.specs.Apps.{AppCommand}
+use Rattle.spec_refinement.specs.SeenParties.{Kind, Role, agent_starting, app_starting}
+use Rattle.running_parties.specs.Slots.{SlotsRecord, AreWithin as PartiesWithin, StepIn}
+use Rattle.running_parties.specs.Peers.{AgentStartsIn, AppStartsIn, AsksOneIn, AskInWorld, app_steps}
+use Rattle.spec_roles.specs.Apps.{AppCommand}
 use Rattle.schedule_text.specs.declared.refusal.Refusal.{Refusal}
 use Rattle.schedule_text.specs.declared.refusal.Refusal.TheVariants as why
 use Rattle.schedule_text.specs.Printing.{as_refusal}

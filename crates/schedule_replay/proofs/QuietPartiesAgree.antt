@@ -3,9 +3,9 @@ use Rattle.std.proofs.Common.{◌≡◌, true, sym, ◌∙◌, ap, subst}
 use Rattle.fuxi_terms.specs.Cluster.{ClusterRecord, has_machine}
 use Rattle.fuxi_terms.specs.Jobs.{is_known}
 use Rattle.fuxi_terms.specs.Tables.{held_on}
-use Rattle.written_world.specs.World.{World}
-use Rattle.written_world.specs.Safe.{Safe, row_count}
-use Rattle.written_join.specs.SeenWorlds.{app_seen}
+use Rattle.spec_world.specs.World.{World}
+use Rattle.spec_world.specs.Safe.{Safe, row_count}
+use Rattle.spec_refinement.specs.SeenWorlds.{app_seen}
 use Rattle.schedule_replay.specs.Worlds.{WorldRecord, IsWorld, StandsFor}
 use Rattle.schedule_replay.specs.Promises.{AllAgree}
 use Rattle.schedule_replay.proofs.CoresStandFor.{PartiesRun, agent_runs, app_runs, master_runs, table_is}

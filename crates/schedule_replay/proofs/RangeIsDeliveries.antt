@@ -4,17 +4,17 @@ use Rattle.std.specs.Option.{option_map}
 use Rattle.std.proofs.lemmas.Bool.Decides.{nat_tests}
 use Rattle.std.proofs.lemmas.Option.{slice_get-map, same_Some, slice_get_within}
 use Rattle.party_ledgers.specs.declared.packets.Packet.{Packet as PacketHere}
-use Rattle.core_side.specs.Parcels.{parcel_is, IsSent}
-use Rattle.written_net.specs.Net.{Net, Packet}
-use Rattle.written_net.specs.Ledgers.{Ledger}
-use Rattle.written_net.specs.Channels.{body_of}
-use Rattle.written_join.specs.SeenWorlds.{parcel_of}
-use Rattle.written_roles.specs.Refusals.{with_found, NoPacket}
-use Rattle.written_world.specs.World.{World, Step, prints_nothing, refused}
-use Rattle.written_world.specs.Events.{packet_of, no_packet, deliver_one, deliver_all, deliver, deliver_range, dump}
-use Rattle.written_world.specs.Outputs.{Frame}
+use Rattle.peer_channel.specs.Parcels.{parcel_is, IsSent}
+use Rattle.spec_net.specs.Net.{Net, Packet}
+use Rattle.spec_net.specs.Ledgers.{Ledger}
+use Rattle.spec_net.specs.Channels.{body_of}
+use Rattle.spec_refinement.specs.SeenWorlds.{parcel_of}
+use Rattle.spec_roles.specs.Refusals.{with_found, NoPacket}
+use Rattle.spec_world.specs.World.{World, Step, prints_nothing, refused}
+use Rattle.spec_world.specs.Events.{packet_of, no_packet, deliver_one, deliver_all, deliver, deliver_range, dump}
+use Rattle.spec_world.specs.Outputs.{Frame}
 use Rattle.wire_frames.specs.Frames.{frame}
-use Rattle.packet_pool.specs.PacketPools.{Stored}
+use Rattle.schedule_replay.specs.PacketPools.{Stored}
 use Rattle.schedule_text.specs.declared.refusal.Refusal.TheVariants as why
 use Rattle.schedule_replay.specs.ReplayTexts.{lines_text}
 use Rattle.schedule_replay.specs.Worlds.{WorldRecord, KeepsPackets, IsWorld, StandsFor, event_steps}

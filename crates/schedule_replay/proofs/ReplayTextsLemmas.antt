@@ -11,13 +11,13 @@ use Rattle.party_ledgers.specs.declared.packets.Kind.{Kind as KindHere}
 use Rattle.party_ledgers.specs.declared.packets.Kind.TheVariants.{Ack as AckHere, Delta as DeltaHere, Full as FullHere, End}
 use Rattle.party_ledgers.specs.declared.packets.Body.{Body as BodyHere}
 use Rattle.party_ledgers.specs.declared.packets.Body.TheVariants.{Nothing, Row, RowDelta, Join, Grants, GrantsDelta, Demand, DemandDelta}
-use Rattle.core_side.specs.Parcels.{role_number, id_of, party_of, kind_of, content_of, packet_of, parcel_is, IsSent}
-use Rattle.written_net.specs.Net.{Net, Packet}
-use Rattle.written_net.specs.Ledgers.{Ledger, body_length}
-use Rattle.written_net.specs.Channels.{is_master, body_of, frame_length}
-use Rattle.written_net.specs.Sides.{Parcel}
-use Rattle.written_join.specs.SeenWorlds.{parcel_of}
-use Rattle.written_world.specs.Outputs.{Line, Sent, Frame, sent_lines}
+use Rattle.peer_channel.specs.Parcels.{role_number, id_of, party_of, kind_of, content_of, packet_of, parcel_is, IsSent}
+use Rattle.spec_net.specs.Net.{Net, Packet}
+use Rattle.spec_net.specs.Ledgers.{Ledger, body_length}
+use Rattle.spec_net.specs.Channels.{is_master, body_of, frame_length}
+use Rattle.spec_net.specs.Sides.{Parcel}
+use Rattle.spec_refinement.specs.SeenWorlds.{parcel_of}
+use Rattle.spec_world.specs.Outputs.{Line, Sent, Frame, sent_lines}
 use Rattle.wire_frames.specs.Frames.{frame}
 use Rattle.schedule_text.specs.PrintedLines.{line_text, frame_words, ended}
 use Rattle.schedule_text.specs.Printing.{as_party, as_kind, as_line, output_text, role_number as printed_role}

@@ -3,18 +3,18 @@ use Rattle.std.proofs.Common.{◌≡◌, ℕ, false, List, [], ◌++◌, map, re
 use Rattle.std.proofs.lemmas.List.{map-append}
 use Rattle.fuxi_terms.proofs.Alls.{all_append}
 use Rattle.party_ledgers.specs.declared.packets.Packet.{Packet}
-use Rattle.core_side.specs.Parcels.{parcel_is, IsSent}
-use Rattle.written_net.specs.Sides.{Parcel}
-use Rattle.written_world.specs.World.{World}
-use Rattle.packet_pool.specs.PacketPools.{Stored, Keeps}
+use Rattle.peer_channel.specs.Parcels.{parcel_is, IsSent}
+use Rattle.spec_net.specs.Sides.{Parcel}
+use Rattle.spec_world.specs.World.{World}
+use Rattle.schedule_replay.specs.PacketPools.{Stored, Keeps}
 use Rattle.schedule_replay.specs.Held.{Held, IsOpen}
 use Rattle.agent_core.specs.AgentCores.{AgentCore}
 use Rattle.app_master.specs.AppCores.{AppCore}
 use Rattle.fuxi_master.specs.Cores.{MasterRecord}
-use Rattle.written_parties.specs.SeenParties.{Kind, Masters, Agents, Apps, Role, is_same, Acts}
-use Rattle.party_slots.specs.Slots.{SlotsRecord, ActIn, AreOf, Stays}
-use Rattle.party_slots.specs.Peers.{AgentStands, AppStands}
-use Rattle.party_slots.specs.RunningMasters.{MasterStands, AreMastersOf}
+use Rattle.spec_refinement.specs.SeenParties.{Kind, Masters, Agents, Apps, Role, is_same, Acts}
+use Rattle.running_parties.specs.Slots.{SlotsRecord, ActIn, AreOf, Stays}
+use Rattle.running_parties.specs.Peers.{AgentStands, AppStands}
+use Rattle.running_parties.specs.RunningMasters.{MasterStands, AreMastersOf}
 use Rattle.schedule_replay.specs.Worlds.{WorldRecord, KeepsPackets, StandsFor}
 use Rattle.schedule_replay.specs.Moves.{AgentsPart, AppsPart, KeepsMore, Leaves, MastersPart, SentMore}
 use Rattle.schedule_replay.proofs.MovesLemmas.{agents_once, apps_once, masters_once}

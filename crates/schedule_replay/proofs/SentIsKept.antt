@@ -7,19 +7,19 @@ use Rattle.std.proofs.lemmas.List.Sums.{sum_by-cons}
 use Rattle.fuxi_terms.specs.Limits.{most_packets, most_packet_bytes}
 use Rattle.fuxi_terms.proofs.Alls.{all_append}
 use Rattle.party_ledgers.specs.declared.packets.Packet.{Packet as PacketHere}
-use Rattle.core_side.specs.Parcels.{content_of, parcel_is}
-use Rattle.written_net.specs.Net.{Net, Packet}
-use Rattle.written_net.specs.Ledgers.{Ledger, body_length}
-use Rattle.written_net.specs.Channels.{frame_length}
-use Rattle.written_net.specs.Sides.{Parcel}
-use Rattle.written_join.specs.SeenWorlds.{parcel_of}
-use Rattle.written_world.specs.Outputs.{Line, sent_lines}
-use Rattle.written_world.specs.World.{World}
+use Rattle.peer_channel.specs.Parcels.{content_of, parcel_is}
+use Rattle.spec_net.specs.Net.{Net, Packet}
+use Rattle.spec_net.specs.Ledgers.{Ledger, body_length}
+use Rattle.spec_net.specs.Channels.{frame_length}
+use Rattle.spec_net.specs.Sides.{Parcel}
+use Rattle.spec_refinement.specs.SeenWorlds.{parcel_of}
+use Rattle.spec_world.specs.Outputs.{Line, sent_lines}
+use Rattle.spec_world.specs.World.{World}
 use Rattle.wire_frames.specs.Frames.{frame, IsFrame}
 use Rattle.wire_frames.specs.Streams.{HasFrame}
-use Rattle.packet_pool.specs.PacketPools.{Stored, bytes_of, with_frames}
-use Rattle.packet_pool.specs.declared.fault.PoolFault.{PoolFault}
-use Rattle.packet_pool.specs.declared.fault.PoolFault.TheVariants as pool
+use Rattle.schedule_replay.specs.PacketPools.{Stored, bytes_of, with_frames}
+use Rattle.schedule_replay.specs.declared.fault.PoolFault.{PoolFault}
+use Rattle.schedule_replay.specs.declared.fault.PoolFault.TheVariants as pool
 use Rattle.schedule_replay.specs.declared.stop.WorldStop.{WorldStop}
 use Rattle.schedule_replay.specs.declared.stop.WorldStop.TheVariants.{TooManyPackets, PoolBytes, OutOfMemory}
 use Rattle.schedule_replay.specs.ReplayTexts.{lines_text}

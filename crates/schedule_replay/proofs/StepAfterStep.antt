@@ -1,11 +1,11 @@
 -- An event that is several steps of the world, one after another.
 use Rattle.std.proofs.Common.{◌≡◌, ℕ, ◌+◌, ◌-◌, ◌<◌, ◌≤◌, true, List, ◌++◌, refl, sym, ◌∙◌, ap, subst, arith, append-nil, append_assoc}
 use Rattle.fuxi_terms.specs.Cluster.{is_valid_cluster}
-use Rattle.written_world.specs.World.{World, Step, prints_nothing, then_step}
-use Rattle.written_world.specs.Events.{Event, act, world_step, counted_in}
-use Rattle.written_world.specs.EventRanges.{is_from_line}
-use Rattle.written_world.specs.Good.{Good}
-use Rattle.written_world.specs.Orders.{IsInOrder}
+use Rattle.spec_world.specs.World.{World, Step, prints_nothing, then_step}
+use Rattle.spec_world.specs.Events.{Event, act, world_step, counted_in}
+use Rattle.spec_world.specs.EventRanges.{is_from_line}
+use Rattle.spec_world.specs.Good.{Good}
+use Rattle.spec_world.specs.Orders.{IsInOrder}
 use Rattle.schedule_replay.specs.ReplayTexts.{lines_text}
 use Rattle.schedule_replay.specs.Worlds.{WorldRecord, IsWorld, StandsFor, AreWithin, event_steps}
 use Rattle.schedule_replay.specs.Moves.{CanMove, CanMoveLong, IsActed, IsActedOnce, IsThrough, GoesThrough, TookSteps}

@@ -2,7 +2,7 @@
 use Rattle.std.proofs.Common.{◌≡◌, ℕ, List, [], ◌∷◌, ◌++◌, Result, subst}
 use Rattle.std.specs.List.{AllByRecursion}
 use Rattle.fuxi_io.specs.Disks.{Moment, Told, Leaves, LeavesAlways}
-use Rattle.written_roles.specs.HardState.{HardEvent, hard_step}
+use Rattle.spec_roles.specs.HardState.{HardEvent, hard_step}
 use Rattle.hard_state.specs.HardFiles.{Kept, WritesStep, IsBeforeOrAfter}
 use Rattle.schedule_replay.specs.Held.{Held, IsOpen}
 

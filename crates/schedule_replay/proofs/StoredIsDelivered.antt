@@ -9,18 +9,18 @@ use Rattle.party_ledgers.specs.Packets.{IsFormed}
 use Rattle.party_ledgers.specs.PacketHeaders.{header_of}
 use Rattle.party_ledgers.specs.declared.packets.Packet.{Packet as PacketHere}
 use Rattle.party_ledgers.specs.declared.packets.Heard.{Heard}
-use Rattle.core_side.specs.Parcels.{parcel_is, IsSent}
-use Rattle.written_net.specs.Net.{Packet}
-use Rattle.written_join.specs.SeenWorlds.{parcel_of}
-use Rattle.written_roles.specs.Refusals.{with_found, NoPacket}
-use Rattle.written_world.specs.World.{World, Step, prints_nothing, refused, then_step}
-use Rattle.written_world.specs.Events.{Deliver, addressed, heard_by, heard_line, packet_of, deliver_one, deliver_all, deliver}
-use Rattle.written_world.specs.EventRanges.{is_from_line}
+use Rattle.peer_channel.specs.Parcels.{parcel_is, IsSent}
+use Rattle.spec_net.specs.Net.{Packet}
+use Rattle.spec_refinement.specs.SeenWorlds.{parcel_of}
+use Rattle.spec_roles.specs.Refusals.{with_found, NoPacket}
+use Rattle.spec_world.specs.World.{World, Step, prints_nothing, refused, then_step}
+use Rattle.spec_world.specs.Events.{Deliver, addressed, heard_by, heard_line, packet_of, deliver_one, deliver_all, deliver}
+use Rattle.spec_world.specs.EventRanges.{is_from_line}
 use Rattle.wire_frames.specs.Fronts.{IsFront}
 use Rattle.wire_frames.specs.ReadFrames.{Reads}
 use Rattle.wire_frames.specs.declared.read.Front.{Front}
 use Rattle.wire_frames.specs.declared.fault.FrameFault.{FrameFault}
-use Rattle.packet_pool.specs.PacketPools.{Stored, Keeps, IsReadAs}
+use Rattle.schedule_replay.specs.PacketPools.{Stored, Keeps, IsReadAs}
 use Rattle.schedule_replay.specs.ReplayTexts.{lines_text}
 use Rattle.schedule_replay.specs.Worlds.{WorldRecord, KeepsPackets, IsWorld, StandsFor}
 use Rattle.schedule_replay.specs.Moves.{HearsIn, Does, TookSteps, heard_lines}

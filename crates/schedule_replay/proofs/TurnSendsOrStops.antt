@@ -5,15 +5,15 @@ use Rattle.std.specs.Option.{option_map}
 use Rattle.std.proofs.lemmas.Option.{slice_get-map, slice_get_within, same_Some}
 use Rattle.std.proofs.lemmas.List.{length-take-le}
 use Rattle.party_ledgers.specs.declared.packets.Packet.{Packet as PacketHere}
-use Rattle.core_side.specs.Parcels.{parcel_is}
-use Rattle.written_net.specs.Net.{Net, Packet}
-use Rattle.written_net.specs.Ledgers.{Ledger}
-use Rattle.written_join.specs.SeenWorlds.{parcel_of}
-use Rattle.written_world.specs.World.{World, Step}
-use Rattle.written_world.specs.Outputs.{sent_lines}
-use Rattle.packet_pool.specs.PacketPools.{Stored, limit_of as pool_limit}
-use Rattle.written_parties.specs.SeenParties.{Kind, Role, turn_of, resync_of}
-use Rattle.party_slots.specs.Slots.{SlotsRecord, AreWithin as PartiesWithin, TurnInWorld, ResyncInWorld}
+use Rattle.peer_channel.specs.Parcels.{parcel_is}
+use Rattle.spec_net.specs.Net.{Net, Packet}
+use Rattle.spec_net.specs.Ledgers.{Ledger}
+use Rattle.spec_refinement.specs.SeenWorlds.{parcel_of}
+use Rattle.spec_world.specs.World.{World, Step}
+use Rattle.spec_world.specs.Outputs.{sent_lines}
+use Rattle.schedule_replay.specs.PacketPools.{Stored, limit_of as pool_limit}
+use Rattle.spec_refinement.specs.SeenParties.{Kind, Role, turn_of, resync_of}
+use Rattle.running_parties.specs.Slots.{SlotsRecord, AreWithin as PartiesWithin, TurnInWorld, ResyncInWorld}
 use Rattle.schedule_text.specs.declared.refusal.Refusal.TheVariants as why
 use Rattle.schedule_replay.specs.declared.stop.WorldStop.{WorldStop}
 use Rattle.schedule_replay.specs.declared.stop.WorldStop.TheVariants.{TooManyPackets, PoolBytes, OutOfMemory}

@@ -3,13 +3,13 @@ use Rattle.std.proofs.Common.{ℕ, List, sym, ap, subst}
 use Rattle.fuxi_terms.specs.Keys.{RowKey}
 use Rattle.fuxi_terms.specs.Tallies.{TallyRecord}
 use Rattle.party_ledgers.specs.Joins.{JoinRecord}
-use Rattle.broadcast.specs.AllShown.{Down, App as Grants}
-use Rattle.written_net.specs.Net.{Net}
-use Rattle.written_net.specs.Ledgers.{Ledger}
-use Rattle.written_net.specs.Channels.{master_id, agent_id, app_id, party}
-use Rattle.written_world.specs.World.{World}
-use Rattle.written_world.specs.Safe.{Views, Safe}
-use Rattle.written_join.specs.SeenWorlds.{side_of}
+use Rattle.ledger_updates.specs.AllShown.{Down, App as Grants}
+use Rattle.spec_net.specs.Net.{Net}
+use Rattle.spec_net.specs.Ledgers.{Ledger}
+use Rattle.spec_net.specs.Channels.{master_id, agent_id, app_id, party}
+use Rattle.spec_world.specs.World.{World}
+use Rattle.spec_world.specs.Safe.{Views, Safe}
+use Rattle.spec_refinement.specs.SeenWorlds.{side_of}
 use Rattle.agent_core.specs.AgentCores.{Up as AgentUp, IsUp as IsAgentUp}
 use Rattle.app_master.specs.AppCores.{Up as AppUp, IsUp as IsAppUp}
 use Rattle.fuxi_master.specs.Cores.{IsDown, IsApp}

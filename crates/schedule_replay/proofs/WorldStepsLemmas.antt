@@ -2,10 +2,10 @@
 use Rattle.std.proofs.Common.{◌≡◌, ℕ, ◌+◌, ◌*◌, ◌^◌, ◌<◌, ◌≤◌, true, List, [], length, sym, ◌∙◌, ap, subst, arith}
 use Rattle.fuxi_terms.specs.Cluster.{is_valid_cluster}
 use Rattle.fuxi_terms.specs.Limits.{most_packets, most_packet_bytes, most_steps}
-use Rattle.packet_pool.specs.PacketPools.{bytes_of}
-use Rattle.written_world.specs.World.{World}
-use Rattle.written_world.specs.Events.{Event, act, counted_in, world_step}
-use Rattle.written_world.specs.EventRanges.{is_from_line}
+use Rattle.schedule_replay.specs.PacketPools.{bytes_of}
+use Rattle.spec_world.specs.World.{World}
+use Rattle.spec_world.specs.Events.{Event, act, counted_in, world_step}
+use Rattle.spec_world.specs.EventRanges.{is_from_line}
 use Rattle.schedule_replay.specs.declared.stop.WorldStop.{WorldStop}
 use Rattle.schedule_replay.specs.Worlds.{WorldRecord, StandsFor, IsReached, event_steps}
 use Rattle.schedule_replay.specs.WorldSteps.{Takes, StopsAt}

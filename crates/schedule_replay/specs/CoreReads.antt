@@ -3,7 +3,7 @@ use Rattle.std.specs.Prelude.{ℕ, Bool, cond, not, nat_lt, ◌&&◌}
 use Rattle.fuxi_terms.specs.Jobs.{priority_of, size_at, most_of, group_of}
 use Rattle.fuxi_terms.specs.Numbers.{has_number}
 use Rattle.fuxi_terms.specs.TallyKeys.{avoid_key}
-use Rattle.written_roles.specs.Placing.{Board, placeable_in}
+use Rattle.spec_roles.specs.Placing.{Board, placeable_in}
 use Rattle.app_master.specs.AppCores.{AppCore}
 use Rattle.app_master.specs.Usable.{is_named, usable_in, carried_at}
 use Rattle.place_pass.specs.Placers.{asks_seen}

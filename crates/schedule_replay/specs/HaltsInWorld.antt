@@ -1,11 +1,11 @@
 -- What a stop within the writing of a line does, in each world that the hard state and the masters are of.
 use Rattle.std.specs.Prelude.{◌≡◌, ◌≤◌, ℕ, [], ◌∷◌, Ok, Err}
 use Rattle.fuxi_terms.specs.Cluster.{ClusterRecord}
-use Rattle.written_roles.specs.HardState.{HardState, HardEvent, hard_step}
-use Rattle.written_roles.specs.MasterSteps.{MasterCommand}
-use Rattle.written_roles.specs.Refusals.{Refusal}
-use Rattle.written_world.specs.World.{World, Step, prints_nothing, refused}
-use Rattle.written_world.specs.Events.{Event, Halt, act, commanded, writer_of}
+use Rattle.spec_roles.specs.HardState.{HardState, HardEvent, hard_step}
+use Rattle.spec_roles.specs.MasterSteps.{MasterCommand}
+use Rattle.spec_roles.specs.Refusals.{Refusal}
+use Rattle.spec_world.specs.World.{World, Step, prints_nothing, refused}
+use Rattle.spec_world.specs.Events.{Event, Halt, act, commanded, writer_of}
 use Rattle.schedule_text.specs.declared.output.Output.{Output}
 use Rattle.schedule_text.specs.Printing.{as_line}
 use Rattle.schedule_replay.specs.declared.halts.Stop.{Stop}

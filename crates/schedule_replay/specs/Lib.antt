@@ -1,3 +1,9 @@
+pub mod FrameEnds
+pub mod PacketPools
+pub mod FullPieces
+pub mod ShownStates
+pub mod Parts
+pub mod ChannelEnds
 pub mod GrowingDisks
 pub mod Held
 pub mod Writings
@@ -10,3 +16,7 @@ pub mod MasterCommands
 pub mod HaltsInWorld
 pub mod CoreReads
 pub mod Promises
+pub mod Inputs
+pub mod ScheduleRuns
+pub mod Told
+pub mod ScheduleProgress

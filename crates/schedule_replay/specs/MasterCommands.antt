@@ -2,15 +2,15 @@
 use Rattle.std.specs.Prelude.{◌≡◌, ℕ, ◌+◌, ◌<◌, ◌≤◌, true, [], length, map, All, Option, Some, None, Result, Ok, Err}
 use Rattle.fuxi_terms.specs.Cluster.{ClusterRecord, is_valid_cluster}
 use Rattle.fuxi_terms.specs.Limits.{most_machines, most_masters, most_records}
-use Rattle.written_world.specs.World.{World, Step, refused}
-use Rattle.written_world.specs.Events.{ban_each, judge, start_master}
-use Rattle.written_world.specs.Good.{Good}
-use Rattle.written_world.specs.Orders.{IsInOrder}
+use Rattle.spec_world.specs.World.{World, Step, refused}
+use Rattle.spec_world.specs.Events.{ban_each, judge, start_master}
+use Rattle.spec_world.specs.Good.{Good}
+use Rattle.spec_world.specs.Orders.{IsInOrder}
 use Rattle.bad_nodes.specs.Ranks.{number_of}
 use Rattle.schedule_replay.specs.Held.{Held, IsOpen}
 use Rattle.fuxi_master.specs.Cores.{MasterRecord}
-use Rattle.party_slots.specs.Slots.{SlotsRecord, AreWithin}
-use Rattle.party_slots.specs.RunningMasters.{AreMastersOf, master_steps}
+use Rattle.running_parties.specs.Slots.{SlotsRecord, AreWithin}
+use Rattle.running_parties.specs.RunningMasters.{AreMastersOf, master_steps}
 use Rattle.schedule_text.specs.declared.refusal.Refusal.{Refusal}
 use Rattle.schedule_text.specs.Printing.{as_refusal}
 use Rattle.schedule_replay.specs.Moves.{Leaves}

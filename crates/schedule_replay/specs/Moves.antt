@@ -4,24 +4,24 @@ use Rattle.std.specs.List.{AllByRecursion}
 use Rattle.fuxi_terms.specs.Limits.{most_steps}
 use Rattle.party_ledgers.specs.declared.packets.Packet.{Packet}
 use Rattle.party_ledgers.specs.declared.packets.Heard.{Heard}
-use Rattle.core_side.specs.Parcels.{parcel_is, IsSent}
-use Rattle.written_net.specs.Net.{Packet as WrittenPacket}
-use Rattle.written_world.specs.World.{World, Step}
-use Rattle.written_roles.specs.MasterSteps.{BansMachine}
-use Rattle.written_world.specs.Outputs.{Line, Refused, Judged, Lost, Came}
-use Rattle.written_world.specs.Events.{addressed, commanded, deliver_one, heard_by, heard_line}
-use Rattle.written_join.specs.SeenWorlds.{parcel_of}
-use Rattle.packet_pool.specs.PacketPools.{Stored, Keeps, limit_of as pool_limit}
-use Rattle.packet_pool.specs.declared.fault.PoolFault.{PoolFault}
-use Rattle.packet_pool.specs.declared.fault.PoolFault.TheVariants as pool
+use Rattle.peer_channel.specs.Parcels.{parcel_is, IsSent}
+use Rattle.spec_net.specs.Net.{Packet as WrittenPacket}
+use Rattle.spec_world.specs.World.{World, Step}
+use Rattle.spec_roles.specs.MasterSteps.{BansMachine}
+use Rattle.spec_world.specs.Outputs.{Line, Refused, Judged, Lost, Came}
+use Rattle.spec_world.specs.Events.{addressed, commanded, deliver_one, heard_by, heard_line}
+use Rattle.spec_refinement.specs.SeenWorlds.{parcel_of}
+use Rattle.schedule_replay.specs.PacketPools.{Stored, Keeps, limit_of as pool_limit}
+use Rattle.schedule_replay.specs.declared.fault.PoolFault.{PoolFault}
+use Rattle.schedule_replay.specs.declared.fault.PoolFault.TheVariants as pool
 use Rattle.wire_frames.specs.Streams.{HasFrame}
 use Rattle.agent_core.specs.AgentCores.{AgentCore}
 use Rattle.app_master.specs.AppCores.{AppCore}
 use Rattle.fuxi_master.specs.Cores.{MasterRecord}
-use Rattle.written_parties.specs.SeenParties.{Kind, Masters, Agents, Apps, Role, turn_of, resync_of}
-use Rattle.party_slots.specs.Slots.{SlotsRecord, AreOf, AreWithin as PartiesWithin, ActIn, Stays}
-use Rattle.party_slots.specs.Peers.{AgentStands, AppStands, agent_steps, app_steps}
-use Rattle.party_slots.specs.RunningMasters.{MasterStands, master_steps}
+use Rattle.spec_refinement.specs.SeenParties.{Kind, Masters, Agents, Apps, Role, turn_of, resync_of}
+use Rattle.running_parties.specs.Slots.{SlotsRecord, AreOf, AreWithin as PartiesWithin, ActIn, Stays}
+use Rattle.running_parties.specs.Peers.{AgentStands, AppStands, agent_steps, app_steps}
+use Rattle.running_parties.specs.RunningMasters.{MasterStands, master_steps}
 use Rattle.schedule_text.specs.declared.refusal.Refusal.{Refusal}
 use Rattle.schedule_text.specs.Printing.{as_refusal}
 use Rattle.schedule_replay.specs.declared.turns.Told.{Told}

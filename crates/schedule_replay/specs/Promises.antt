@@ -11,21 +11,21 @@ use Rattle.fuxi_terms.specs.Tables.{held_on}
 use Rattle.delta_channel.specs.Standing.{Sending}
 use Rattle.delta_channel.specs.Hearing.{Receiving}
 use Rattle.full_sync.specs.Turns.{Endpoint}
-use Rattle.written_net.specs.Ledgers.{at_key}
-use Rattle.written_net.specs.Channels.{app_id, party}
-use Rattle.written_roles.specs.Masters.{out_of}
-use Rattle.written_roles.specs.Placing.{has_pair}
-use Rattle.written_world.specs.World.{World, App}
-use Rattle.written_world.specs.Good.{Good}
-use Rattle.written_world.specs.Quiet.{is_quiet}
-use Rattle.written_world.specs.Safe.{RowsFit, place_for, grants_at, units_total_at, row_count}
+use Rattle.spec_net.specs.Ledgers.{at_key}
+use Rattle.spec_net.specs.Channels.{app_id, party}
+use Rattle.spec_roles.specs.Masters.{out_of}
+use Rattle.spec_roles.specs.Placing.{has_pair}
+use Rattle.spec_world.specs.World.{World, App}
+use Rattle.spec_world.specs.Good.{Good}
+use Rattle.spec_world.specs.Quiet.{is_quiet}
+use Rattle.spec_world.specs.Safe.{RowsFit, place_for, grants_at, units_total_at, row_count}
 use Rattle.place_pass.specs.Placers.{asks_seen}
-use Rattle.broadcast.specs.AllShown.{Down, App as Grants}
+use Rattle.ledger_updates.specs.AllShown.{Down, App as Grants}
 use Rattle.agent_core.specs.AgentCores.{AgentCore, table_in}
 use Rattle.app_master.specs.AppCores.{AppCore}
 use Rattle.app_master.specs.Usable.{is_named}
 use Rattle.fuxi_master.specs.Cores.{CoreRecord, MasterRecord}
-use Rattle.party_slots.specs.Slots.{slot_at}
+use Rattle.running_parties.specs.Slots.{slot_at}
 use Rattle.schedule_replay.specs.Worlds.{WorldRecord, IsWorld, StandsFor}
 use Rattle.schedule_replay.specs.CoreReads.{held_now, is_placeable}
 

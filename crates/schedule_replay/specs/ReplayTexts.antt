@@ -9,10 +9,10 @@ use Rattle.party_ledgers.specs.declared.packets.Kind.{Kind}
 use Rattle.party_ledgers.specs.declared.packets.Kind.TheVariants as kind
 use Rattle.party_ledgers.specs.declared.packets.Body.{Body}
 use Rattle.party_ledgers.specs.declared.packets.Body.TheVariants as body
-use Rattle.written_net.specs.Net.{Packet as WrittenPacket, Party as WrittenParty, Id, Kind as WrittenKind, Ack, Delta, Full}
-use Rattle.written_net.specs.Ledgers.{Body as WrittenBody, Empty, Rows, RowChanges, Report, Tally, TallyChange}
-use Rattle.written_net.specs.Channels.{is_master}
-use Rattle.written_world.specs.Outputs.{Line}
+use Rattle.spec_net.specs.Net.{Packet as WrittenPacket, Party as WrittenParty, Id, Kind as WrittenKind, Ack, Delta, Full}
+use Rattle.spec_net.specs.Ledgers.{Body as WrittenBody, Empty, Rows, RowChanges, Report, Tally, TallyChange}
+use Rattle.spec_net.specs.Channels.{is_master}
+use Rattle.spec_world.specs.Outputs.{Line}
 use Rattle.wire_frames.specs.Frames.{frame}
 use Rattle.schedule_text.specs.PrintedLines.{line_text}
 

@@ -2,9 +2,9 @@
 use Rattle.std.specs.Prelude.{◌≡◌, ℕ, ◌++◌, cond, nat_lt, List, length, Option, Some, None}
 use Rattle.std.specs.List.{sum_by}
 use Rattle.fuxi_terms.specs.Limits.{most_packets, most_packet_bytes}
-use Rattle.written_net.specs.Channels.{frame_length}
-use Rattle.written_world.specs.World.{World, Step}
-use Rattle.written_world.specs.Events.{Event, world_step}
+use Rattle.spec_net.specs.Channels.{frame_length}
+use Rattle.spec_world.specs.World.{World, Step}
+use Rattle.spec_world.specs.Events.{Event, world_step}
 use Rattle.schedule_replay.specs.declared.stop.WorldStop.{WorldStop}
 use Rattle.schedule_replay.specs.declared.stop.WorldStop.TheVariants.{TooManyPackets, PoolBytes, OutOfMemory}
 use Rattle.schedule_replay.specs.ReplayTexts.{lines_text}

@@ -3,19 +3,19 @@ use Rattle.std.specs.Prelude.{◌≡◌, ℕ, ◌*◌, ◌^◌, true, List, map}
 use Rattle.std.specs.List.{AllByRecursion}
 use Rattle.fuxi_terms.specs.Cluster.{ClusterRecord, is_valid_cluster}
 use Rattle.party_ledgers.specs.declared.packets.Packet.{Packet}
-use Rattle.core_side.specs.Parcels.{parcel_is, IsSent}
-use Rattle.written_join.specs.SeenWorlds.{parcel_of}
-use Rattle.written_world.specs.World.{World}
-use Rattle.written_world.specs.Good.{Good}
-use Rattle.packet_pool.specs.PacketPools.{Stored, Keeps}
+use Rattle.peer_channel.specs.Parcels.{parcel_is, IsSent}
+use Rattle.spec_refinement.specs.SeenWorlds.{parcel_of}
+use Rattle.spec_world.specs.World.{World}
+use Rattle.spec_world.specs.Good.{Good}
+use Rattle.schedule_replay.specs.PacketPools.{Stored, Keeps}
 use Rattle.schedule_replay.specs.Held.{Held, IsOpen}
 use Rattle.agent_core.specs.AgentCores.{AgentCore}
 use Rattle.app_master.specs.AppCores.{AppCore}
 use Rattle.fuxi_master.specs.Cores.{MasterRecord}
-use Rattle.party_slots.specs.Slots.{SlotsRecord, AreWithin as PartiesWithin}
-use Rattle.party_slots.specs.Peers.{AreAgentsOf, AreAppsOf, agent_steps, app_steps}
-use Rattle.party_slots.specs.RunningMasters.{AreMastersOf, master_steps}
-use Rattle.written_world.specs.Orders.{IsInOrder}
+use Rattle.running_parties.specs.Slots.{SlotsRecord, AreWithin as PartiesWithin}
+use Rattle.running_parties.specs.Peers.{AreAgentsOf, AreAppsOf, agent_steps, app_steps}
+use Rattle.running_parties.specs.RunningMasters.{AreMastersOf, master_steps}
+use Rattle.spec_world.specs.Orders.{IsInOrder}
 
 -- the cluster, the hard state on its disk, the cores that run, the frames of all packets that were sent, and the number of events
 pub record WorldRecord : Type 0 where

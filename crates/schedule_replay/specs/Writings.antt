@@ -1,8 +1,8 @@
 -- What is left of a writing to a checkpoint that stops.
 use Rattle.std.specs.Prelude.{◌≡◌, ℕ, Bool, ◌&&◌, ◌||◌, cond, nat_eq, List, Result, Ok, Err}
 use Rattle.fuxi_io.specs.Disks.{Moment, IsImage}
-use Rattle.written_roles.specs.HardState.{HardState}
-use Rattle.written_roles.specs.Refusals.{Refusal}
+use Rattle.spec_roles.specs.HardState.{HardState}
+use Rattle.spec_roles.specs.Refusals.{Refusal}
 use Rattle.hard_state.specs.HardFiles.{records_of}
 
 -- Of the four calls of the disk that a writing makes, the last one makes its record count, and the third where all that was written is left.

@@ -2,7 +2,7 @@
 
 ghost use Rattle.std.specs.Prelude.{◌<◌};
 ghost use Rattle.schedule_text.specs.Writing.{IsLineEvent};
-ghost use Rattle.written_world.specs.Events.{act};
+ghost use Rattle.spec_world.specs.Events.{act};
 ghost use Rattle.schedule_replay.specs.LineEvents.{event_as};
 ghost use Rattle.schedule_replay.specs.Moves.{Acts, CanMove, CanMoveLong};
 
@@ -15,7 +15,7 @@ use crate::orders::carry_out;
 use crate::running::Running;
 use crate::showing::show;
 use crate::stop::WorldStop;
-use party_orders::order_of;
+use party_commands::command_of;
 use schedule_text::Event;
 use std::alloc::Global;
 
@@ -32,7 +32,7 @@ pub(crate) fn act(
     requires counted { 0 < running.old.events }
     ensures { Acts (λ w. act w (event_as event.now)) running.old running.new out.old.items out.new.items result }
 {
-    if let Some(order) = order_of(event) {
+    if let Some(order) = command_of(event) {
         return carry_out(running, alloc, &order, out);
     }
     match event {

@@ -1,7 +1,7 @@
 //! The events of agents.
 
 ghost use Rattle.std.specs.Prelude.{◌≡◌, ◌<◌};
-ghost use Rattle.written_world.specs.Events.{start_agent};
+ghost use Rattle.spec_world.specs.Events.{start_agent};
 ghost use Rattle.schedule_replay.specs.Moves.{Acts, CanMove};
 
 use crate::law;
@@ -33,7 +33,7 @@ pub(crate) fn start_agent(
         return write_refusal(Some(Refusal::NotRising(known)), out);
     }
     let has = running.cluster.machine(machine).has;
-    match party_slots::start_agent(&mut running.agents, alloc, machine, has, boot) {
+    match running_parties::start_agent(&mut running.agents, alloc, machine, has, boot) {
         Ok(()) => Ok(()),
         Err(_) => Err(WorldStop::OutOfMemory),
     }

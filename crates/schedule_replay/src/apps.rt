@@ -2,15 +2,15 @@
 
 ghost use Rattle.std.specs.Prelude.{◌<◌};
 ghost use Rattle.fuxi_terms.specs.Limits.{most_jobs};
-ghost use Rattle.party_orders.specs.OrderedParties.{app_command};
-ghost use Rattle.written_world.specs.Events.{start_app, asks};
+ghost use Rattle.party_commands.specs.CommandedParties.{app_command};
+ghost use Rattle.spec_world.specs.Events.{start_app, asks};
 ghost use Rattle.schedule_replay.specs.Moves.{Acts, CanMove};
 
 use crate::law;
 use crate::running::Running;
 use crate::stop::WorldStop;
 use crate::text::write_refusal;
-use party_orders::AppCommand;
+use party_commands::AppCommand;
 use schedule_text::Refusal;
 use schedule_unit::AppNo;
 use std::alloc::Global;
@@ -40,7 +40,7 @@ pub(crate) fn start_app(
         return write_refusal(Some(Refusal::NotRising(known)), out);
     }
     let units = job.units();
-    match party_slots::start_app(&mut running.apps, alloc, app, units, &running.cluster, boot) {
+    match running_parties::start_app(&mut running.apps, alloc, app, units, &running.cluster, boot) {
         Ok(()) => Ok(()),
         Err(_) => Err(WorldStop::OutOfMemory),
     }
@@ -59,7 +59,7 @@ pub(crate) fn ask_app(
 {
     law::apps_act();
     law::cores_may_step();
-    match party_slots::ask(&mut running.apps, alloc, app, asked) {
+    match running_parties::ask(&mut running.apps, alloc, app, asked) {
         Ok(answer) => write_refusal(answer.unwrap_or(Some(Refusal::NotRunning)), out),
         Err(_) => Err(WorldStop::OutOfMemory),
     }

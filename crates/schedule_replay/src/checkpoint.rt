@@ -2,13 +2,13 @@
 
 ghost use Rattle.std.specs.Prelude.{◌≡◌, ◌≢◌, ◌≤◌, Result, Ok, Err, IfOk, IfErr, OnOk, IsOk};
 ghost use Rattle.fuxi_io.specs.Disks.{Leaves};
-ghost use Rattle.written_roles.specs.HardState.{empty_hard, hard_step};
-ghost use Rattle.written_roles.specs.Refusals.{Refusal};
+ghost use Rattle.spec_roles.specs.HardState.{empty_hard, hard_step};
+ghost use Rattle.spec_roles.specs.Refusals.{Refusal};
 ghost use Rattle.hard_state.specs.HardFiles.{IsBeforeOrAfter, Refuses, records_of};
 ghost use Rattle.schedule_replay.specs.Held.{IsOpen};
-ghost use Rattle.party_orders.specs.OrderedParties.{IsNamed, IsWritable, event_of, master_command};
-ghost use Rattle.party_slots.specs.Slots.{MayStep, slot_at};
-ghost use Rattle.party_slots.specs.RunningMasters.{AreMastersOver, ObeyInWorld, master_steps};
+ghost use Rattle.party_commands.specs.CommandedParties.{IsNamed, IsWritable, event_of, master_command};
+ghost use Rattle.running_parties.specs.Slots.{MayStep, slot_at};
+ghost use Rattle.running_parties.specs.RunningMasters.{AreMastersOver, ObeyInWorld, master_steps};
 ghost use Rattle.schedule_replay.specs.MasterCommands.{TakesStep};
 ghost use Rattle.schedule_replay.specs.Writings.{IsLeft, MayLeave, counts_after};
 
@@ -16,8 +16,8 @@ use crate::disk::GrowingDisk;
 use fuxi_master::Master;
 use fuxi_terms::OutOfMemory;
 use hard_state::{Hard, HardFault};
-use party_orders::{Halt, MasterCommand, Writing, write};
-use party_slots::Slots;
+use party_commands::{CommandError, MasterCommand, Writing, write};
+use running_parties::Slots;
 use schedule_text::Refusal;
 use std::alloc::Global;
 use std::marker::Model;
@@ -107,7 +107,7 @@ impl Checkpoint {
         alloc: Global,
         epoch: u64,
         command: &MasterCommand,
-    ) -> Result<Option<Option<Refusal>>, Halt>
+    ) -> Result<Option<Option<Refusal>>, CommandError>
         requires named { IsNamed command.now }
         requires over { AreMastersOver self.old.hard.value masters.old }
         requires steps { MayStep master_steps (slot_at masters.old epoch) }
@@ -116,7 +116,7 @@ impl Checkpoint {
         ensures open { OnOk result (IsOpen self.new) }
         ensures steps { TakesStep masters.old masters.new }
     {
-        party_slots::obey(
+        running_parties::obey(
             masters,
             alloc,
             epoch,

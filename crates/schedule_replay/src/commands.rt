@@ -6,9 +6,9 @@
 ghost use Rattle.std.specs.Prelude.{◌≡◌, ◌<◌, ◌≤◌, IfOk, OnOk, is_some};
 ghost use Rattle.std.specs.Ordering.{nat_cmp};
 ghost use Rattle.std.specs.FinMap.Entries.{find};
-ghost use Rattle.written_world.specs.World.{World};
-ghost use Rattle.written_world.specs.Events.{start_master, stop_master};
-ghost use Rattle.party_slots.specs.RunningMasters.{AreMastersOf};
+ghost use Rattle.spec_world.specs.World.{World};
+ghost use Rattle.spec_world.specs.Events.{start_master, stop_master};
+ghost use Rattle.running_parties.specs.RunningMasters.{AreMastersOf};
 ghost use Rattle.schedule_replay.specs.MasterCommands.{AreGoverned, Decides, GovernsMasters, GovernsOn, IsGoverning, StartsIn, TakesStep, governing};
 
 use crate::checkpoint::Checkpoint;
@@ -17,8 +17,8 @@ use cluster_desc::Cluster;
 use fuxi_master::Master;
 use fuxi_terms::OutOfMemory;
 use fuxi_terms::limits::{MOST_MASTERS, MOST_RECORDS};
-use party_orders::{Writing, written_refusal};
-use party_slots::Slots;
+use party_commands::{Writing, written_refusal};
+use running_parties::Slots;
 use schedule_text::Refusal;
 use schedule_unit::MachineNo;
 use std::alloc::Global;
@@ -32,7 +32,7 @@ pub(crate) fn start_tests(
     ensures world { (w : World) → IsGoverning w (governing checkpoint.now masters.now) → StartsIn w epoch result }
     ensures above { OnOk result (checkpoint.now.hard.value.fence < epoch) }
 {
-    party_slots::law::epochs_alike();
+    running_parties::law::epochs_alike();
     let fence = checkpoint.hard().fence();
     if epoch <= fence {
         return Err(Refusal::NotRising(fence));
@@ -66,7 +66,7 @@ pub(crate) fn start_master(
             Err(_) => return Err(OutOfMemory),
         },
     }
-    match party_slots::start_master(masters, alloc, cluster, epoch, checkpoint.hard()) {
+    match running_parties::start_master(masters, alloc, cluster, epoch, checkpoint.hard()) {
         Ok(()) => Ok(None),
         Err(OutOfMemory) => Err(OutOfMemory),
     }
@@ -77,7 +77,7 @@ pub(crate) fn stop_master(masters: &mut Slots<Master>, epoch: u64) -> Option<Ref
     ensures world { GovernsMasters (λ w. stop_master w epoch) masters.old masters.new result }
     ensures steps { TakesStep masters.old masters.new }
 {
-    if party_slots::stop_master(masters, epoch) {
+    if running_parties::stop_master(masters, epoch) {
         None
     } else {
         Some(Refusal::NotRunning)
@@ -103,8 +103,8 @@ pub(crate) fn judged(
     requires { percent ≤ 100 }
     ensures { IfOk result (Decides epoch least percent (governing checkpoint.now masters.now)) }
 {
-    written_roles::law::judges();
-    party_slots::law::parties_run();
+    spec_roles::law::judges();
+    running_parties::law::parties_run();
     let Some(master) = masters.get(epoch) else {
         return Ok(Err(Refusal::NotRunning));
     };
@@ -126,6 +126,6 @@ pub(crate) fn judged(
 pub(crate) fn runs(masters: &Slots<Master>, epoch: u64) -> bool
     ensures { (w : World) → AreMastersOf w masters.now → result ≡ is_some (find nat_cmp epoch w.masters) }
 {
-    party_slots::law::parties_run();
+    running_parties::law::parties_run();
     masters.get(epoch).is_some()
 }

@@ -4,16 +4,16 @@ ghost use Rattle.std.specs.Prelude.{◌≡◌, ◌<◌, ◌≤◌, length, IfOk,
 ghost use Rattle.party_ledgers.specs.Packets.{IsFormed};
 ghost use Rattle.party_ledgers.specs.PacketHeaders.{header_of};
 ghost use Rattle.party_ledgers.specs.declared.packets.Packet.{Packet};
-ghost use Rattle.written_world.specs.Events.{deliver, deliver_one, deliver_range, dump};
+ghost use Rattle.spec_world.specs.Events.{deliver, deliver_one, deliver_range, dump};
 ghost use Rattle.schedule_replay.specs.Moves.{Acts, ActsOnce, CanMove, CanMoveLong, HearsIn, IsHeardAs, IsHeardBy};
 
 use crate::law;
 use crate::running::Running;
 use crate::stop::WorldStop;
 use crate::text::{write_heard, write_kept, write_refusal};
-use core_side::Reply;
 use fuxi_terms::OutOfMemory;
 use party_ledgers::{Header, Kind, Packet};
+use peer_channel::Reply;
 use schedule_text::Refusal;
 use schedule_unit::Role;
 use std::alloc::Global;
@@ -28,7 +28,7 @@ fn hear(running: &mut Running, alloc: Global, packet: Packet) -> Result<Option<R
     ensures { IfOk result (IsHeardBy packet running.old running.new) }
 {
     law::cores_may_step();
-    written_join::law::every_change_is_taken();
+    spec_refinement::law::every_change_is_taken();
     let to = packet.to;
     match to.role {
         Role::Master => {
@@ -50,7 +50,7 @@ fn hear(running: &mut Running, alloc: Global, packet: Packet) -> Result<Option<R
 fn leaves(running: &Running, header: &Header) -> Option<Reply>
     ensures { IfSome result (λ reply. (x : Packet) → IsFormed x → header_of x ≡ header.now → HearsIn x running.now running.now (Some reply)) }
 {
-    written_join::law::every_change_is_taken();
+    spec_refinement::law::every_change_is_taken();
     law::masters_act();
     law::agents_act();
     law::apps_act();
@@ -77,7 +77,7 @@ fn hear_stored(
     requires can { CanMove running.old }
     ensures { IfOk result (λ heard. IsHeardAs number heard running.old running.new) }
 {
-    packet_pool::law::stored_is_read();
+    crate::law::stored_is_read();
     let Some(bytes) = running.pool.frame(number) else {
         unreachable!()
     };
@@ -145,8 +145,8 @@ pub(crate) fn deliver_range(
     requires counted { 0 < running.old.events }
     ensures { Acts (λ w. deliver_range w first last) running.old running.new out.old.items out.new.items result }
 {
-    written_world::law::every_event_keeps_good();
-    written_world::law::worlds_in_order();
+    spec_world::law::every_event_keeps_good();
+    spec_world::law::worlds_in_order();
     let sent = running.pool.len();
     if first > sent {
         return write_refusal(Some(Refusal::NoPacket(sent)), out);

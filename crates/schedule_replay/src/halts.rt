@@ -5,11 +5,11 @@
 
 ghost use Rattle.std.specs.Prelude.{◌≡◌, true, IfOk};
 ghost use Rattle.fuxi_terms.specs.Cluster.{ClusterRecord};
-ghost use Rattle.party_orders.specs.OrderedParties.{IsNamed, IsWritable, event_of, has_writing, master_command};
+ghost use Rattle.party_commands.specs.CommandedParties.{IsNamed, IsWritable, event_of, has_writing, master_command};
 ghost use Rattle.schedule_replay.specs.Held.{IsOpen};
 ghost use Rattle.schedule_text.specs.Halting.{halting};
 ghost use Rattle.schedule_text.specs.Writing.{IsLineEvent};
-ghost use Rattle.written_world.specs.Events.{StartMaster};
+ghost use Rattle.spec_world.specs.Events.{StartMaster};
 ghost use Rattle.schedule_replay.specs.LineEvents.{event_as};
 ghost use Rattle.schedule_replay.specs.MasterCommands.{AreGoverned, TakesStep, governing};
 ghost use Rattle.schedule_replay.specs.HaltsInWorld.{Halts, HaltsCommand, HaltsWithin, IsWithin};
@@ -19,8 +19,10 @@ use crate::commands::{runs, start_tests};
 use cluster_desc::Cluster;
 use fuxi_master::Master;
 use fuxi_terms::OutOfMemory;
-use party_orders::{MasterCommand, Order, Writing, order_of, tested, writing_of, written_refusal};
-use party_slots::{Slots, stop_master};
+use party_commands::{
+    MasterCommand, PartyCommand, Writing, command_of, tested, writing_of, written_refusal,
+};
+use running_parties::{Slots, stop_master};
 use schedule_text::{Event, Output, Refusal};
 use std::alloc::Global;
 
@@ -48,8 +50,8 @@ pub(crate) fn halt(
     if let Event::Master(epoch) = line {
         return halt_start(alloc, checkpoint, masters, *epoch, stop);
     }
-    match order_of(line) {
-        Some(Order::Govern(epoch, command)) => {
+    match command_of(line) {
+        Some(PartyCommand::Master(epoch, command)) => {
             halt_command(alloc, cluster, checkpoint, masters, epoch, &command, stop)
         }
         _ => unreachable!(),

@@ -2,11 +2,11 @@
 
 ghost use Rattle.std.specs.Prelude.{◌<◌, ◌≤◌, map};
 ghost use Rattle.bad_nodes.specs.Ranks.{number_of};
-ghost use Rattle.written_world.specs.Events.{Halt, act, ban_each, commanded, judge, start_master, stop_master};
+ghost use Rattle.spec_world.specs.Events.{Halt, act, ban_each, commanded, judge, start_master, stop_master};
 ghost use Rattle.schedule_text.specs.Halting.{halting};
 ghost use Rattle.schedule_text.specs.Writing.{IsLineEvent};
 ghost use Rattle.schedule_replay.specs.LineEvents.{event_as};
-ghost use Rattle.party_orders.specs.OrderedParties.{IsNamed, master_command};
+ghost use Rattle.party_commands.specs.CommandedParties.{IsNamed, master_command};
 ghost use Rattle.schedule_replay.specs.MasterCommands.{MayBan};
 ghost use Rattle.schedule_replay.specs.Moves.{Acts, ActsOnce, CanMove, CanMoveLong, ban_one};
 
@@ -15,7 +15,7 @@ use crate::halts::{self, Stop};
 use crate::running::Running;
 use crate::stop::WorldStop;
 use crate::text::{write_judged, write_line, write_refusal};
-use party_orders::MasterCommand;
+use party_commands::MasterCommand;
 use schedule_text::{Event, Refusal};
 use schedule_unit::MachineNo;
 use std::alloc::Global;
@@ -58,7 +58,7 @@ pub(crate) fn stop_master(
 }
 
 // The master of an epoch is commanded.
-pub(crate) fn give_order(
+pub(crate) fn give_command(
     running: &mut Running,
     alloc: Global,
     epoch: u64,
@@ -121,8 +121,8 @@ fn ban_each(
     requires counted { 0 < running.old.events }
     ensures { Acts (ban_each epoch judgement.now.votes (map number_of judgement.now.machines.items)) running.old running.new out.old.items out.new.items result }
 {
-    written_world::law::every_event_keeps_good();
-    written_world::law::worlds_in_order();
+    spec_world::law::every_event_keeps_good();
+    spec_world::law::worlds_in_order();
     for place in 0..judgement.machines.len() {
         let machine = judgement.machines[place];
         let votes = judgement.votes.votes(machine);

@@ -1,10 +1,10 @@
 //! What is promised of the cores that run, and not only of the written world: each contract here is a law.
 
 ghost use Rattle.std.specs.Prelude.{◌≡◌, true, Some};
-ghost use Rattle.written_world.specs.World.{World as WrittenWorld};
-ghost use Rattle.written_world.specs.Quiet.{is_quiet};
+ghost use Rattle.spec_world.specs.World.{World as WrittenWorld};
+ghost use Rattle.spec_world.specs.Quiet.{is_quiet};
 ghost use Rattle.fuxi_master.specs.Cores.{MasterRecord};
-ghost use Rattle.party_slots.specs.Slots.{slot_at};
+ghost use Rattle.running_parties.specs.Slots.{slot_at};
 ghost use Rattle.schedule_replay.specs.Worlds.{IsWorld, StandsFor as WorldStandsFor};
 ghost use Rattle.schedule_replay.specs.Promises.{TablesFit, AllHeldOnce, AllFollow, AllAgree, AllSettled, AreOfGoodWorld, Agree};
 
@@ -25,8 +25,8 @@ pub fn cores_are_safe(world: &World)
     ensures good { AreOfGoodWorld world.now }
 {
     world.is_reached();
-    party_slots::law::parties_run();
-    written_world::law::every_event_keeps_good();
+    running_parties::law::parties_run();
+    spec_world::law::every_event_keeps_good();
 }
 
 /// The answer of `World::quiet` for the master of an epoch (`answer`). Where it is true, that master, the agents, and the applications of the

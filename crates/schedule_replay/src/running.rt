@@ -1,8 +1,13 @@
 //! All that runs, lent event by event.
 
-ghost use Rattle.std.specs.Prelude.{◌≡◌, ◌+◌, ◌<◌, ◌^◌, ◌++◌, IfOk, IfErr, OnOk, OnErr};
-ghost use Rattle.written_world.specs.World.{World as WrittenWorld, empty_world};
-ghost use Rattle.written_world.specs.Show.{show};
+ghost use Rattle.std.specs.Prelude.{◌≡◌, ◌+◌, ◌<◌, ◌^◌, ◌++◌, length, is_some, IfOk, IfErr, OnOk, OnErr};
+ghost use Rattle.std.specs.Option.{option_copied};
+ghost use Rattle.std.specs.Ordering.{nat_cmp};
+ghost use Rattle.std.specs.FinMap.Entries.{find};
+ghost use Rattle.running_parties.specs.Slots.{slot_at};
+ghost use Rattle.spec_world.specs.World.{World as WrittenWorld, empty_world};
+ghost use Rattle.spec_world.specs.Quiet.{is_quiet};
+ghost use Rattle.spec_world.specs.Show.{show};
 ghost use Rattle.schedule_text.specs.Writing.{IsLineEvent};
 ghost use Rattle.schedule_replay.specs.LineEvents.{event_as};
 ghost use Rattle.schedule_replay.specs.ReplayTexts.{lines_text};
@@ -11,17 +16,16 @@ ghost use Rattle.schedule_replay.specs.WorldSteps.{Takes, StopsAt};
 
 use crate::acts::act;
 use crate::checkpoint::Checkpoint;
-use crate::law;
 use crate::stop::WorldStop;
+use crate::{PacketPool, is_quiet, law, write_state};
 use agent_core::Agent;
 use app_master::AppMaster;
 use cluster_desc::Cluster;
 use fuxi_master::Master;
 use fuxi_terms::OutOfMemory;
-use packet_pool::PacketPool;
-use party_slots::Slots;
-use running_state::write_state;
+use running_parties::Slots;
 use schedule_text::Event;
+use schedule_unit::{AppNo, MachineNo};
 use std::alloc::Global;
 use std::marker::Model;
 
@@ -69,8 +73,8 @@ impl Running {
         ensures reached { IfOk result IsReached }
         ensures events { IfOk result (λ running. running.events ≡ 0) }
     {
-        written_world::law::good_at_start();
-        written_world::law::worlds_in_order();
+        spec_world::law::good_at_start();
+        spec_world::law::worlds_in_order();
         // A cluster is valid.
         let _machines = cluster.machines();
         let checkpoint = Checkpoint::open(alloc)?;
@@ -100,8 +104,8 @@ impl Running {
         ensures events { OnOk result (self.new.events ≡ self.old.events + 1) }
         ensures stops { IfErr result (StopsAt (event_as event.now) self.old) }
     {
-        written_world::law::every_event_keeps_good();
-        written_world::law::worlds_in_order();
+        spec_world::law::every_event_keeps_good();
+        spec_world::law::worlds_in_order();
         crate::law::events_are_inputs();
         law::cores_may_step();
         law::written_frame_lengths();
@@ -139,5 +143,69 @@ impl Running {
                 Err(refusal)
             }
         }
+    }
+
+    /// Whether a master of the epoch runs, every agent runs, has joined it and is reported to it, every running application of its jobs has
+    /// joined it, and each channel between that master and each of these is caught up at index 1 or more. It takes no memory.
+    pub fn quiet(&self, epoch: u64) -> bool
+        requires { IsReached self.now }
+        ensures { (w : WrittenWorld) → IsWorld w → StandsFor self.now w → result ≡ is_quiet w epoch }
+    {
+        is_quiet(
+            &self.cluster,
+            self.checkpoint.hard(),
+            &self.masters,
+            &self.agents,
+            &self.apps,
+            epoch,
+        )
+    }
+
+    /// The master of an epoch as it runs; `None` exactly where none of that epoch runs. It takes no memory.
+    pub fn master(&self, epoch: u64) -> Option<&Master>
+        ensures core { option_copied result ≡ slot_at self.now.masters epoch }
+        ensures runs { (w : WrittenWorld) → StandsFor self.now w → is_some result ≡ is_some (find nat_cmp epoch w.masters) }
+    {
+        running_parties::law::parties_run();
+        self.masters.get(epoch)
+    }
+
+    /// The agent of a machine as it runs; `None` exactly where none runs there. It takes no memory.
+    pub fn agent(&self, machine: MachineNo) -> Option<&Agent>
+        ensures core { option_copied result ≡ slot_at self.now.agents machine.0 }
+        ensures runs { (w : WrittenWorld) → StandsFor self.now w → is_some result ≡ is_some (find nat_cmp machine.0 w.agents) }
+    {
+        running_parties::law::parties_run();
+        self.agents.get(machine.0 as u64)
+    }
+
+    /// The application of a job as it runs; `None` exactly where none runs. It takes no memory.
+    pub fn app(&self, app: AppNo) -> Option<&AppMaster>
+        ensures core { option_copied result ≡ slot_at self.now.apps app.0 }
+        ensures runs { (w : WrittenWorld) → StandsFor self.now w → is_some result ≡ is_some (find nat_cmp app.0 w.apps) }
+    {
+        running_parties::law::parties_run();
+        self.apps.get(app.0 as u64)
+    }
+
+    /// How many events it took, refused ones too. It takes no memory.
+    pub fn steps(&self) -> u64
+        ensures { result ≡ self.now.events }
+    {
+        self.events
+    }
+
+    /// How many packets were sent, at most 1,000,000. It takes no memory.
+    pub fn packets(&self) -> u64
+        ensures { (w : WrittenWorld) → StandsFor self.now w → result ≡ length w.net.packets }
+    {
+        self.pool.len()
+    }
+
+    /// The fence of the hard state. It takes no memory.
+    pub fn fence(&self) -> u64
+        ensures { (w : WrittenWorld) → StandsFor self.now w → result ≡ w.hard.fence }
+    {
+        self.checkpoint.hard().fence()
     }
 }

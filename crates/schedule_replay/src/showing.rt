@@ -1,12 +1,12 @@
 //! The event that prints the state.
 
 ghost use Rattle.std.specs.Prelude.{◌≡◌};
-ghost use Rattle.written_world.specs.Events.{show_state};
+ghost use Rattle.spec_world.specs.Events.{show_state};
 ghost use Rattle.schedule_replay.specs.Moves.{Acts, CanMove};
 
 use crate::running::Running;
 use crate::stop::WorldStop;
-use running_state::write_state;
+use crate::write_state;
 
 // The state is printed.
 pub(crate) fn show(running: &Running, out: &mut Vec<u8>) -> Result<(), WorldStop>

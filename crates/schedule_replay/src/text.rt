@@ -2,12 +2,12 @@
 
 ghost use Rattle.std.specs.Prelude.{◌≡◌, ℕ, ◌+◌, ◌^◌, ◌<◌, ◌++◌, ◌∷◌, [], List, Some, length, map, IfErr, OnOk};
 ghost use Rattle.std.specs.List.{AllByRecursion};
-ghost use Rattle.core_side.specs.Parcels.{kind_of, parcel_is, IsSent};
-ghost use Rattle.written_net.specs.Net.{Net, Packet as WrittenPacket};
-ghost use Rattle.written_net.specs.Ledgers.{Ledger};
-ghost use Rattle.written_net.specs.Channels.{body_of};
-ghost use Rattle.written_join.specs.SeenWorlds.{parcel_of};
-ghost use Rattle.written_world.specs.Outputs.{Frame, Judged, sent_lines};
+ghost use Rattle.peer_channel.specs.Parcels.{kind_of, parcel_is, IsSent};
+ghost use Rattle.spec_net.specs.Net.{Net, Packet as WrittenPacket};
+ghost use Rattle.spec_net.specs.Ledgers.{Ledger};
+ghost use Rattle.spec_net.specs.Channels.{body_of};
+ghost use Rattle.spec_refinement.specs.SeenWorlds.{parcel_of};
+ghost use Rattle.spec_world.specs.Outputs.{Frame, Judged, sent_lines};
 ghost use Rattle.schedule_text.specs.Printing.{as_kind, as_line};
 ghost use Rattle.schedule_replay.specs.Moves.{refusal_lines, heard_lines, WantsMemory};
 ghost use Rattle.schedule_replay.specs.ReplayTexts.{lines_text};
@@ -16,8 +16,8 @@ ghost use Rattle.party_ledgers.specs.declared.packets.Packet.{Packet as PacketSe
 
 use crate::law;
 use crate::stop::WorldStop;
-use core_side::Reply;
 use party_ledgers::{Kind, Packet};
+use peer_channel::Reply;
 use schedule_text::{
     Kind as PrintedKind, Output, Refusal, write_frame, write_heard as write_heard_line,
     write_output, write_sent as write_sent_line,

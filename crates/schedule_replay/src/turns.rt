@@ -2,26 +2,25 @@
 
 ghost use Rattle.std.specs.Prelude.{◌≡◌, ◌+◌, ◌++◌, List, Some, None, cond, length, map, IfErr, OnOk};
 ghost use Rattle.std.specs.List.{AllByRecursion};
-ghost use Rattle.core_side.specs.Parcels.{parcel_is, IsSent};
-ghost use Rattle.written_net.specs.Net.{Net, Packet as WrittenPacket};
-ghost use Rattle.written_net.specs.Ledgers.{Ledger};
-ghost use Rattle.written_join.specs.SeenWorlds.{parcel_of};
-ghost use Rattle.written_world.specs.Outputs.{sent_lines};
+ghost use Rattle.peer_channel.specs.Parcels.{parcel_is, IsSent};
+ghost use Rattle.spec_net.specs.Net.{Net, Packet as WrittenPacket};
+ghost use Rattle.spec_net.specs.Ledgers.{Ledger};
+ghost use Rattle.spec_refinement.specs.SeenWorlds.{parcel_of};
+ghost use Rattle.spec_world.specs.Outputs.{sent_lines};
 ghost use Rattle.schedule_text.specs.declared.refusal.Refusal.{Refusal};
-ghost use Rattle.packet_pool.specs.PacketPools.{Stored};
-ghost use Rattle.written_parties.specs.SeenParties.{turn_of, resync_of};
-ghost use Rattle.party_slots.specs.Slots.{MayStep, slot_at};
+ghost use Rattle.schedule_replay.specs.PacketPools.{Stored};
+ghost use Rattle.spec_refinement.specs.SeenParties.{turn_of, resync_of};
+ghost use Rattle.running_parties.specs.Slots.{MayStep, slot_at};
 ghost use Rattle.schedule_replay.specs.ReplayTexts.{lines_text};
-ghost use Rattle.party_orders.specs.OrderedParties.{kind_named};
+ghost use Rattle.party_commands.specs.CommandedParties.{kind_named};
 ghost use Rattle.schedule_replay.specs.Moves.{Acts, ActsAsPart, CanMove, KeepsMore, StopsAs, StopsFor, WantsMemory, refusal_lines, told_of};
 
-use crate::law;
 use crate::running::Running;
 use crate::stop::WorldStop;
 use crate::text::{write_all_sent, write_refusal};
-use packet_pool::{PacketPool, PoolFault};
+use crate::{PacketPool, PoolFault, law};
 use party_ledgers::Packet;
-use party_slots::{Party, Slots};
+use running_parties::{Party, Slots};
 use schedule_text::Refusal;
 use schedule_unit::Role;
 use std::alloc::Global;

@@ -4,16 +4,17 @@ ghost use Rattle.std.specs.Prelude.{◌≡◌, ℕ, ◌+◌, ◌<◌, ◌^◌, �
 ghost use Rattle.std.specs.Option.{option_copied};
 ghost use Rattle.std.specs.Ordering.{nat_cmp};
 ghost use Rattle.std.specs.FinMap.Entries.{find};
-ghost use Rattle.party_slots.specs.Slots.{slot_at};
-ghost use Rattle.written_world.specs.World.{World as WrittenWorld, empty_world};
-ghost use Rattle.written_world.specs.Quiet.{is_quiet};
-ghost use Rattle.written_world.specs.Show.{show};
+ghost use Rattle.running_parties.specs.Slots.{slot_at};
+ghost use Rattle.spec_world.specs.World.{World as WrittenWorld, empty_world};
+ghost use Rattle.spec_world.specs.Quiet.{is_quiet};
+ghost use Rattle.spec_world.specs.Show.{show};
 ghost use Rattle.schedule_text.specs.Writing.{IsLineEvent};
 ghost use Rattle.schedule_replay.specs.LineEvents.{event_as};
 ghost use Rattle.schedule_replay.specs.ReplayTexts.{lines_text};
 ghost use Rattle.schedule_replay.specs.Worlds.{IsReached, IsWorld, StandsFor};
 ghost use Rattle.schedule_replay.specs.WorldSteps.{Takes, StopsAt};
 
+use crate::lines::Lines;
 use crate::running::Running;
 use crate::stop::WorldStop;
 use agent_core::Agent;
@@ -21,8 +22,6 @@ use app_master::AppMaster;
 use cluster_desc::Cluster;
 use fuxi_master::Master;
 use fuxi_terms::OutOfMemory;
-use party_slots::law;
-use running_state::is_quiet;
 use schedule_text::Event;
 use schedule_unit::{AppNo, MachineNo};
 use std::alloc::Global;
@@ -69,23 +68,24 @@ impl World {
         })
     }
 
-    /// One event. `out` then has what it prints, and nothing that it had before. The event is one that a line can give, and fewer than 2^29
-    /// were taken. After a stop the world is gone, and nothing is said of `out`.
+    /// One event: the world behind it, and what it prints. The event is one that a line can give, and fewer than 2^29
+    /// were taken. After a stop the world is gone.
     ///
     /// `TooManyPackets` comes where with the packets of the event more than 1,000,000 would have been sent, and then
     /// `PoolBytes` where the frames of all would have more than 2^30 bytes together. `OutOfMemory` may come in place
     /// of any answer.
-    pub fn step(self, alloc: Global, event: &Event, out: &mut Vec<u8>) -> Result<World, WorldStop>
+    pub fn step(self, alloc: Global, event: &Event) -> Result<(World, Lines), WorldStop>
         requires line { IsLineEvent event.now }
         requires events { self.events < 2 ^ 29 }
-        ensures takes { IfOk result (λ after. Takes (event_as event.now) self after out.new.items) }
-        ensures events { IfOk result (λ after. after.events ≡ self.events + 1) }
+        ensures takes { IfOk result (λ after. Takes (event_as event.now) self after.0 after.1) }
+        ensures events { IfOk result (λ after. after.0.events ≡ self.events + 1) }
         ensures stops { IfErr result (StopsAt (event_as event.now) self) }
     {
         let World { running } = self;
         let mut running = running;
-        match running.step(alloc, event, out) {
-            Ok(()) => Ok(World { running }),
+        let mut text = Vec::new(alloc);
+        match running.step(alloc, event, &mut text) {
+            Ok(()) => Ok((World { running }, Lines::of(text))),
             Err(stop) => Err(stop),
         }
     }
@@ -111,15 +111,7 @@ impl World {
     pub fn quiet(&self, epoch: u64) -> bool
         ensures { (w : WrittenWorld) → IsWorld w → StandsFor self.now w → result ≡ is_quiet w epoch }
     {
-        let running: &Running = &self.running;
-        is_quiet(
-            &running.cluster,
-            running.checkpoint.hard(),
-            &running.masters,
-            &running.agents,
-            &running.apps,
-            epoch,
-        )
+        self.running.quiet(epoch)
     }
 
     /// The master of an epoch as it runs; `None` exactly where none of that epoch runs. It takes no memory.
@@ -127,8 +119,7 @@ impl World {
         ensures core { option_copied result ≡ slot_at self.now.masters epoch }
         ensures runs { (w : WrittenWorld) → StandsFor self.now w → is_some result ≡ is_some (find nat_cmp epoch w.masters) }
     {
-        law::parties_run();
-        self.running.masters.get(epoch)
+        self.running.master(epoch)
     }
 
     /// The agent of a machine as it runs; `None` exactly where none runs there. It takes no memory.
@@ -136,8 +127,7 @@ impl World {
         ensures core { option_copied result ≡ slot_at self.now.agents machine.0 }
         ensures runs { (w : WrittenWorld) → StandsFor self.now w → is_some result ≡ is_some (find nat_cmp machine.0 w.agents) }
     {
-        law::parties_run();
-        self.running.agents.get(machine.0 as u64)
+        self.running.agent(machine)
     }
 
     /// The application of a job as it runs; `None` exactly where none runs. It takes no memory.
@@ -145,28 +135,27 @@ impl World {
         ensures core { option_copied result ≡ slot_at self.now.apps app.0 }
         ensures runs { (w : WrittenWorld) → StandsFor self.now w → is_some result ≡ is_some (find nat_cmp app.0 w.apps) }
     {
-        law::parties_run();
-        self.running.apps.get(app.0 as u64)
+        self.running.app(app)
     }
 
     /// How many events it took, refused ones too. It takes no memory.
     pub fn steps(&self) -> u64
         ensures { result ≡ self.now.events }
     {
-        self.running.events
+        self.running.steps()
     }
 
     /// How many packets were sent, at most 1,000,000. It takes no memory.
     pub fn packets(&self) -> u64
         ensures { (w : WrittenWorld) → StandsFor self.now w → result ≡ length w.net.packets }
     {
-        self.running.pool.len()
+        self.running.packets()
     }
 
     /// The fence of the hard state. It takes no memory.
     pub fn fence(&self) -> u64
         ensures { (w : WrittenWorld) → StandsFor self.now w → result ≡ w.hard.fence }
     {
-        self.running.checkpoint.hard().fence()
+        self.running.fence()
     }
 }

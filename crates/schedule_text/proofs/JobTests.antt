@@ -11,7 +11,7 @@ use Rattle.schedule_unit.specs.declared.asks.Ask.{Ask}
 use Rattle.schedule_unit.specs.declared.job.JobFault.{JobFault}
 use Rattle.schedule_unit.specs.declared.job.JobFault.TheVariants as fault
 use Rattle.schedule_unit.specs.JobFaults.{IsFault, first_unit_fault, job_fault, unit_asked, unit_no}
-use Rattle.written_roles.specs.Refusals.{Refusal, NoUnits, TooManyUnits, Dimensions, PriorityRange, QuantityRange, ZeroSize, MostRange, first_refusal, job_tests, units_tests}
+use Rattle.spec_roles.specs.Refusals.{Refusal, NoUnits, TooManyUnits, Dimensions, PriorityRange, QuantityRange, ZeroSize, MostRange, first_refusal, job_tests, units_tests}
 use Rattle.schedule_text.specs.declared.refusal.Refusal.{Refusal as CodeRefusal}
 use Rattle.schedule_text.specs.Printing.{as_refusal}
 use Rattle.schedule_text.specs.Asked.{AreTestedAlike, job_named, job_refusal, unit_named}

@@ -6,7 +6,7 @@ use Rattle.schedule_unit.specs.declared.asks.Ask.{Ask}
 use Rattle.schedule_unit.specs.declared.job.JobFault.{JobFault}
 use Rattle.schedule_unit.specs.declared.job.JobFault.TheVariants as job
 use Rattle.schedule_unit.specs.JobFaults.{IsFault, job_asked, job_fault}
-use Rattle.written_roles.specs.Refusals.{first_refusal, job_tests}
+use Rattle.spec_roles.specs.Refusals.{first_refusal, job_tests}
 use Rattle.schedule_text.specs.declared.refusal.Refusal.{Refusal}
 use Rattle.schedule_text.specs.declared.refusal.Refusal.TheVariants as why
 use Rattle.schedule_text.specs.Printing.{as_refusal}

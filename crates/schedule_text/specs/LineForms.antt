@@ -2,7 +2,7 @@
 use Rattle.std.specs.Prelude.{ℕ, ◌<◌, ◌≤◌, Bool, true, false, not, nat_eq, nat_lt, List, [], ◌∷◌, map, codes}
 use Rattle.fuxi_terms.specs.Cluster.{is_between, is_at_most}
 use Rattle.fuxi_terms.specs.Limits.{most_jobs, most_units, most_machines, most_racks, most_groups}
-use Rattle.written_roles.specs.Votes.{most_votes}
+use Rattle.spec_roles.specs.Votes.{most_votes}
 use Rattle.schedule_text.specs.declared.form.Form.{Form}
 use Rattle.schedule_text.specs.declared.form.Head.{Head}
 use Rattle.schedule_text.specs.declared.form.Head.TheVariants.{Master, Stop, Agent, App, Submit, Finish, Ban, Unban, Begin, Preempt, Judge, Want, Near, Rack, Avoid, Back, TurnMaster, TurnAgent, TurnApp, ResyncMaster, ResyncAgent, ResyncApp, Deliver, DeliverRange, Dump, Show}

@@ -2,10 +2,10 @@
 use Rattle.std.specs.Prelude.{ℕ, cond, nat_eq, List, [], ◌∷◌, ◌++◌, map, codes, decimal}
 use Rattle.fuxi_terms.specs.declared.answers.What.{What}
 use Rattle.fuxi_terms.specs.declared.answers.What.TheVariants.{Stranger, Stale, Ack as Acked, NotMine, Old, Gap, Taken, Ledger, Exceeds}
-use Rattle.written_net.specs.Net.{Party, Packet, Kind, Ack, Delta, Full}
-use Rattle.written_net.specs.Ledgers.{Body}
-use Rattle.written_roles.specs.Refusals.{Refusal, NotRunning, NotRising, TooManyMasters, HardFull, Fenced, NoMachine, NoRack, NoGroup, NoJob, NoUnit, Known, Ended, AlreadyBanned, NotBanned, AlreadyServing, NotServing, NothingToPreempt, WantRange, NotUsable, BackRange, NoPacket, NoUnits, TooManyUnits, Dimensions, PriorityRange, QuantityRange, ZeroSize, MostRange}
-use Rattle.written_world.specs.Outputs.{Line, Sent, Came, Lost, Halted, Frame, Refused, Judged, State, Fence, Job, Banned, MasterIs, Reported, Grant, Wait, AgentAt, Row, AppAt, Hold, Carry, Packets}
+use Rattle.spec_net.specs.Net.{Party, Packet, Kind, Ack, Delta, Full}
+use Rattle.spec_net.specs.Ledgers.{Body}
+use Rattle.spec_roles.specs.Refusals.{Refusal, NotRunning, NotRising, TooManyMasters, HardFull, Fenced, NoMachine, NoRack, NoGroup, NoJob, NoUnit, Known, Ended, AlreadyBanned, NotBanned, AlreadyServing, NotServing, NothingToPreempt, WantRange, NotUsable, BackRange, NoPacket, NoUnits, TooManyUnits, Dimensions, PriorityRange, QuantityRange, ZeroSize, MostRange}
+use Rattle.spec_world.specs.Outputs.{Line, Sent, Came, Lost, Halted, Frame, Refused, Judged, State, Fence, Job, Banned, MasterIs, Reported, Grant, Wait, AgentAt, Row, AppAt, Hold, Carry, Packets}
 use Rattle.hex.specs.Hex.{encode_lower}
 use Rattle.schedule_text.specs.Writing.{spaced}
 

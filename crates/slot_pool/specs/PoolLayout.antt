@@ -21,4 +21,4 @@ pub record HasRoom (room values generations free : ℕ) : Type 0 where
   pub values_fit : room ≤ values
   pub generations_fit : room ≤ generations
   pub free_fit : room ≤ free
-  pub numbers_fit : room ≤ 2 ^ 32
+  pub numbers_fit : room < 2 ^ 32

@@ -12,7 +12,7 @@ pub(crate) enum Cell<T> {
 }
 
 // A tag of one place beside the value, and nothing else.
-const _: () = prove!(size_of::<Cell<[u64; 4]>>() == 40);
+const _: () = prove!(size_of::<Cell<[u64; 3]>>() == 32);
 
 impl<T> Cell<T> {
     ghost use Rattle.slot_pool.specs.contracts.cell.Cell.{the_row};

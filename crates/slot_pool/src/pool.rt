@@ -11,8 +11,8 @@ use std::alloc::Global;
 use std::marker::Model;
 use std::mem;
 
-/// So many numbers a slot can have.
-const MOST_NUMBERS: usize = 4_294_967_296;
+/// So many numbers a slot can have. Each and one more is a `u32`.
+const MOST_NUMBERS: usize = 4_294_967_295;
 
 /// A number, and which of the values that stand under that number one after another is meant.
 #[derive(Clone, Copy, Debug, PartialEq, Eq)]
@@ -80,7 +80,7 @@ impl<T> Pool<T> {
     }
 
     /// Makes room, so that at least `n` values can be put in. What is reserved is written only as it is used.
-    /// `OutOfMemory`: memory was refused, or more than 2^32 numbers are needed; the pool is as before.
+    /// `OutOfMemory`: memory was refused, or more than 2^32 - 1 numbers are needed; the pool is as before.
     pub fn reserve(&mut self, n: usize) -> Result<(), OutOfMemory>
         ensures room { OnOk result (n ≤ self.new.spare) }
         ensures no_less { OnOk result (self.old.spare ≤ self.new.spare) }
@@ -131,6 +131,13 @@ impl<T> Pool<T> {
             number,
             generation: self.generation(number),
         }
+    }
+
+    /// The number of each slot that is live is below 2^32 - 1. The call does nothing.
+    pub fn bound_numbers(&self)
+        ensures { (slot : SlotRecord) → IsSome (value_at self.now slot) → slot.number + 1 < 2 ^ 32 }
+    {
+        let _room = self.room;
     }
 
     /// Whether a value stands under the slot.

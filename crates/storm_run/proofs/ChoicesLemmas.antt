@@ -3,10 +3,10 @@ use Rattle.std.proofs.Common.{◌≡◌, ℕ, ◌+◌, ◌^◌, ◌<◌, ◌≤�
 use Rattle.std.specs.Ordering.{nat_cmp}
 use Rattle.std.specs.FinMap.Entries.{find}
 use Rattle.std.proofs.lemmas.Bool.Decides.{nat_tests}
-use Rattle.written_net.specs.Channels.{agent_id}
-use Rattle.written_roles.specs.Refusals.{with_found}
-use Rattle.written_world.specs.World.{World, Agent}
-use Rattle.written_world.specs.Events.{Event, StartAgent, DeliverRange}
+use Rattle.spec_net.specs.Channels.{agent_id}
+use Rattle.spec_roles.specs.Refusals.{with_found}
+use Rattle.spec_world.specs.World.{World, Agent}
+use Rattle.spec_world.specs.Events.{Event, StartAgent, DeliverRange}
 use Rattle.schedule_replay.specs.declared.stop.WorldStop.{WorldStop}
 use Rattle.schedule_replay.specs.Worlds.{WorldRecord, StandsFor}
 use Rattle.storm_run.specs.Choices.{counted, restart}

@@ -12,17 +12,17 @@ use Rattle.fuxi_terms.specs.Lists.{below}
 use Rattle.fuxi_terms.proofs.Booleans.{both_true}
 use Rattle.fuxi_terms.proofs.Lists.{take_last}
 use Rattle.schedule_replay.specs.Worlds.{WorldRecord, IsReached}
-use Rattle.written_join.specs.SeenWorlds.{agent_seen, app_seen, master_seen}
-use Rattle.written_roles.specs.Apps.{AppRole, held_by as held_alone}
-use Rattle.written_roles.specs.Masters.{Master}
-use Rattle.written_roles.specs.Refusals.{with_found}
-use Rattle.written_world.specs.World.{World, Agent}
+use Rattle.spec_refinement.specs.SeenWorlds.{agent_seen, app_seen, master_seen}
+use Rattle.spec_roles.specs.Apps.{AppRole, held_by as held_alone}
+use Rattle.spec_roles.specs.Masters.{Master}
+use Rattle.spec_roles.specs.Refusals.{with_found}
+use Rattle.spec_world.specs.World.{World, Agent}
 use Rattle.agent_core.specs.AgentCores.{AgentCore, StandsFor as AgentStandsFor}
 use Rattle.app_master.specs.AppCores.{AppCore, StandsFor as AppStandsFor}
 use Rattle.fuxi_master.specs.Cores.{MasterRecord, StandsFor as MasterStandsFor}
-use Rattle.party_slots.specs.Slots.{SlotsRecord, slot_at}
-use Rattle.party_slots.specs.Peers.{AreAgentsOf, AreAppsOf, AgentRunsAs, AppRunsAs, AgentAt, AppAt}
-use Rattle.party_slots.specs.RunningMasters.{AreMastersOf, MasterAt, MasterRunsAs}
+use Rattle.running_parties.specs.Slots.{SlotsRecord, slot_at}
+use Rattle.running_parties.specs.Peers.{AreAgentsOf, AreAppsOf, AgentRunsAs, AppRunsAs, AgentAt, AppAt}
+use Rattle.running_parties.specs.RunningMasters.{AreMastersOf, MasterAt, MasterRunsAs}
 use Rattle.storm_run.specs.Summaries.{granted_by, granted, held_by, held_in, rows_of, rows_in}
 
 -- one number more

@@ -5,3 +5,6 @@ pub mod Units
 pub mod CountsLemmas
 pub mod Texts
 pub mod Calm
+pub mod TakenLemmas
+pub mod BefallsLemmas
+pub mod StormEndsLemmas

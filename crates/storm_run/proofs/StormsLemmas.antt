@@ -1,32 +1,37 @@
 -- Parts of a storm, one after another.
 use Rattle.std.proofs.Common.{◌≡◌, ℕ, zero, suc, ◌+◌, ◌-◌, ◌<◌, List, [], ◌∷◌, ◌++◌, Result, Ok, Err, refl, sym, ◌∙◌, ap, subst, add-one, arith}
+use Rattle.std.specs.Prelude.{IfErr, OnOk}
 use Rattle.fuxi_terms.specs.Counts.{then_do}
 use Rattle.schedule_replay.specs.declared.stop.WorldStop.{WorldStop}
 use Rattle.schedule_replay.specs.declared.stop.WorldStop.TheVariants.{TooManyPackets, PoolBytes, OutOfMemory}
 use Rattle.schedule_replay.specs.WorldSteps.{Takes, StopsAt}
 use Rattle.schedule_replay.specs.Worlds.{WorldRecord, IsWorld, StandsFor}
-use Rattle.written_world.specs.World.{World, empty_world}
-use Rattle.written_world.specs.Events.{Event, world_step}
+use Rattle.spec_world.specs.World.{World, empty_world}
+use Rattle.spec_world.specs.Events.{Event, world_step}
 use Rattle.storm_run.specs.declared.choices.Choice.{Choice}
 use Rattle.storm_run.specs.Choices.{Chosen, chosen}
 use Rattle.storm_run.specs.Clusters.{storm_cluster}
 use Rattle.storm_run.specs.Storms.{unless_past, taken, all_taken, each, stepped, storm_at, all_stepped, opened, closed, storm}
 use Rattle.storm_run.specs.Summaries.{summary, storm_of}
-use Rattle.storm_run.specs.StormRuns.{RanTo, StoppedAt, Ends, Runs, Steps, Chooses, events_in}
+use Rattle.storm_run.specs.StormRuns.{RanTo, StoppedAt, Ends, Runs, Steps, Chooses, events_in, outcome}
 
 abbrev pub Part : Type 0
 Part = World → Result World WorldStop
 
 -- an event is taken, or it is not
-pub took : (e : Event) (old new : WorldRecord) (text : List ℕ) → Takes e old new text → Runs (λ w. taken w e) old (Ok new)
+took : (e : Event) (old new : WorldRecord) (text : List ℕ) → Takes e old new text → Runs (λ w. taken w e) old (Ok new)
 took e old new text takes = λ w good stands.
     let d = takes w good stands in
     record { world = (world_step w e).world; is = ap (unless_past (world_step w e).world) d.limit; good = d.is; stands = d.stands }
 
-pub stopped : (e : Event) (old : WorldRecord) (stop : WorldStop) → StopsAt e old stop → Runs (λ w. taken w e) old (Err stop)
+stopped : (e : Event) (old : WorldRecord) (stop : WorldStop) → StopsAt e old stop → Runs (λ w. taken w e) old (Err stop)
 stopped e old (TooManyPackets kept) stops = λ w good stands. ap (unless_past (world_step w e).world) (stops w good stands)
 stopped e old (PoolBytes kept) stops = λ w good stands. ap (unless_past (world_step w e).world) (stops w good stands)
 stopped e old OutOfMemory stops = λ w good stands. tt
+
+pub stepped_by : (e : Event) (old new : WorldRecord) (text : List ℕ) (result : Result (Unit {0}) WorldStop) → OnOk result (Takes e old new text) → IfErr result (StopsAt e old) → Runs (λ w. taken w e) old (outcome new result)
+stepped_by e old new text (Ok done) takes stops = took e old new text takes
+stepped_by e old new text (Err stop) takes stops = stopped e old stop stops
 
 -- nothing is done
 pub ran_none : (old : WorldRecord) → Runs (λ w. Ok w) old (Ok old)

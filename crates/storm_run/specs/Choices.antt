@@ -3,10 +3,10 @@ use Rattle.std.specs.Prelude.{ℕ, ◌+◌, ◌-◌, ◌^◌, cond, nat_eq, nat_
 use Rattle.std.specs.Option.{unwrap_or}
 use Rattle.std.specs.Ordering.{nat_cmp}
 use Rattle.std.specs.FinMap.Entries.{find}
-use Rattle.written_net.specs.Channels.{agent_id}
-use Rattle.written_roles.specs.Refusals.{with_found}
-use Rattle.written_world.specs.World.{World}
-use Rattle.written_world.specs.Events.{Event, StartMaster, StopMaster, StartAgent, Begin, Preempt, Want, Near, GiveBack, TurnMaster, TurnAgent, TurnApp, ResyncMaster, Deliver}
+use Rattle.spec_net.specs.Channels.{agent_id}
+use Rattle.spec_roles.specs.Refusals.{with_found}
+use Rattle.spec_world.specs.World.{World}
+use Rattle.spec_world.specs.Events.{Event, StartMaster, StopMaster, StartAgent, Begin, Preempt, Want, Near, GiveBack, TurnMaster, TurnAgent, TurnApp, ResyncMaster, Deliver}
 use Rattle.storm_run.specs.declared.choices.Move.{Move}
 use Rattle.storm_run.specs.declared.choices.Move.TheVariants as act
 use Rattle.storm_run.specs.declared.orders.Order.{Order}

@@ -4,3 +4,4 @@ pub mod Choices
 pub mod Storms
 pub mod Summaries
 pub mod StormRuns
+pub mod StormEnds

@@ -12,8 +12,8 @@ use Rattle.schedule_replay.specs.LineEvents.{event_as}
 use Rattle.schedule_replay.specs.Worlds.{WorldRecord, IsWorld, StandsFor}
 use Rattle.schedule_replay.specs.declared.stop.WorldStop.{WorldStop}
 use Rattle.schedule_replay.specs.declared.stop.WorldStop.TheVariants.{TooManyPackets, PoolBytes, OutOfMemory}
-use Rattle.written_world.specs.Events.{Event, StartAgent, StartApp, TurnAgent, TurnApp}
-use Rattle.written_world.specs.World.{World}
+use Rattle.spec_world.specs.Events.{Event, StartAgent, StartApp, TurnAgent, TurnApp}
+use Rattle.spec_world.specs.World.{World}
 use Rattle.storm_run.specs.declared.choices.Choice.{Choice}
 use Rattle.storm_run.specs.declared.orders.PeerOrder.{PeerOrder}
 use Rattle.storm_run.specs.declared.orders.PeerOrder.TheVariants as order
@@ -32,6 +32,11 @@ abbrev pub StoppedAt : {A : Type 0} → Result A WorldStop → WorldStop → Typ
 StoppedAt r (TooManyPackets kept) = r ≡ Err (TooManyPackets kept)
 StoppedAt r (PoolBytes kept) = r ≡ Err (PoolBytes kept)
 StoppedAt r OutOfMemory = Unit {0}
+
+-- what runs behind a call, where it is done, and else the stop
+abbrev pub outcome : WorldRecord → Result (Unit {0}) WorldStop → Result WorldRecord WorldStop
+outcome new (Ok done) = Ok new
+outcome new (Err stop) = Err stop
 
 abbrev pub Ends : Result World WorldStop → Result WorldRecord WorldStop → Type 0
 Ends r (Ok new) = RanTo r new

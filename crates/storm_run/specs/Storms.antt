@@ -3,8 +3,8 @@ use Rattle.std.specs.Prelude.{ℕ, zero, suc, ◌+◌, cond, nat_lt, List, [], �
 use Rattle.fuxi_terms.specs.Cluster.{JobRecord}
 use Rattle.fuxi_terms.specs.Limits.{greatest_count}
 use Rattle.fuxi_terms.specs.Counts.{then_do}
-use Rattle.written_world.specs.World.{World, empty_world}
-use Rattle.written_world.specs.Events.{Event, StartMaster, StartAgent, StartApp, Submit, TurnMaster, TurnAgent, TurnApp, DeliverRange, world_step}
+use Rattle.spec_world.specs.World.{World, empty_world}
+use Rattle.spec_world.specs.Events.{Event, StartMaster, StartAgent, StartApp, Submit, TurnMaster, TurnAgent, TurnApp, DeliverRange, world_step}
 use Rattle.schedule_replay.specs.declared.stop.WorldStop.{WorldStop}
 use Rattle.schedule_replay.specs.WorldSteps.{limit_of}
 use Rattle.storm_run.specs.Choices.{counted, chosen}

@@ -7,12 +7,12 @@ use Rattle.fuxi_terms.specs.Counts.{then_do}
 use Rattle.fuxi_terms.specs.Jobs.{unit_count}
 use Rattle.fuxi_terms.specs.Lists.{below}
 use Rattle.fuxi_terms.specs.Tables.{held}
-use Rattle.written_net.specs.Channels.{agent_id, app_id, party}
-use Rattle.written_roles.specs.Masters.{Master}
-use Rattle.written_roles.specs.Refusals.{with_found}
-use Rattle.written_world.specs.World.{World, Agent, App}
-use Rattle.written_world.specs.Parties.{agent_table, app_held}
-use Rattle.written_world.specs.Quiet.{is_quiet}
+use Rattle.spec_net.specs.Channels.{agent_id, app_id, party}
+use Rattle.spec_roles.specs.Masters.{Master}
+use Rattle.spec_roles.specs.Refusals.{with_found}
+use Rattle.spec_world.specs.World.{World, Agent, App}
+use Rattle.spec_world.specs.Parties.{agent_table, app_held}
+use Rattle.spec_world.specs.Quiet.{is_quiet}
 use Rattle.schedule_replay.specs.declared.stop.WorldStop.{WorldStop}
 use Rattle.storm_run.specs.declared.counts.Count.{Count}
 use Rattle.storm_run.specs.declared.counts.Count.TheVariants.{Granted, Held, Rows}

@@ -2,14 +2,14 @@
 
 ghost use Rattle.std.specs.Prelude.{◌≡◌, ◌<◌, length, None};
 ghost use Rattle.schedule_replay.specs.Worlds.{IsWorld, StandsFor};
-ghost use Rattle.written_world.specs.World.{World as WrittenWorld};
+ghost use Rattle.spec_world.specs.World.{World as WrittenWorld};
 ghost use Rattle.storm_run.specs.Choices.{chosen, chosen_by, delivery, failover, move_at, restart, trouble};
 ghost use Rattle.storm_run.specs.StormRuns.{listed, events_in, IsLine, AreLines, Chooses};
 
 use crate::generator::Generator;
 use crate::orders::{Order, order_event};
-use party_slots::law;
-use schedule_replay::World;
+use running_parties::law;
+use schedule_replay::Running;
 use schedule_text::Event;
 use schedule_unit::{MachineNo, UnitNo};
 
@@ -121,13 +121,13 @@ fn give_back(generator: &mut Generator) -> Choice
 }
 
 // The agent that runs on a machine starts again, with one more than its last boot.
-fn restarted(world: &World, machine: MachineNo) -> Option<Event>
+fn restarted(running: &Running, machine: MachineNo) -> Option<Event>
     requires { machine.0 < 8 }
-    ensures events { (w : WrittenWorld) → IsWorld w → StandsFor world.now w → listed result ≡ restart w machine.0 }
+    ensures events { (w : WrittenWorld) → IsWorld w → StandsFor running.now w → listed result ≡ restart w machine.0 }
     ensures line { IsLine result }
 {
     law::parties_run();
-    let Some(agent) = world.agent(machine) else {
+    let Some(agent) = running.agent(machine) else {
         return None;
     };
     match agent.boot().checked_add(1) {
@@ -136,14 +136,14 @@ fn restarted(world: &World, machine: MachineNo) -> Option<Event>
     }
 }
 
-fn restart(world: &World, generator: &mut Generator) -> Choice
-    ensures chooses { (w : WrittenWorld) → IsWorld w → StandsFor world.now w → Chooses (chosen_by Move.Restart w generator.old) result generator.new }
+fn restart(running: &Running, generator: &mut Generator) -> Choice
+    ensures chooses { (w : WrittenWorld) → IsWorld w → StandsFor running.now w → Chooses (chosen_by Move.Restart w generator.old) result generator.new }
     ensures lines { AreLines result }
 {
     let machine = generator.draw_machine();
     let chance = generator.draw(10);
     if chance == 0 {
-        Choice::of(restarted(world, machine))
+        Choice::of(restarted(running, machine))
     } else {
         Choice::of(None)
     }
@@ -181,28 +181,28 @@ fn trouble(number: u64, fence: u64) -> Choice
     }
 }
 
-fn choose_by(kind: Move, world: &World, generator: &mut Generator) -> Choice
-    ensures chooses { (w : WrittenWorld) → IsWorld w → StandsFor world.now w → Chooses (chosen_by kind w generator.old) result generator.new }
+fn choose_by(kind: Move, running: &Running, generator: &mut Generator) -> Choice
+    ensures chooses { (w : WrittenWorld) → IsWorld w → StandsFor running.now w → Chooses (chosen_by kind w generator.old) result generator.new }
     ensures lines { AreLines result }
 {
     match kind {
-        Move::Deliver => deliver(world.packets(), generator),
-        Move::TurnMaster => Choice::of(order_event(Order::Turn, world.fence())),
+        Move::Deliver => deliver(running.packets(), generator),
+        Move::TurnMaster => Choice::of(order_event(Order::Turn, running.fence())),
         Move::TurnAgent => turn_agent(generator),
         Move::TurnApp => turn_app(generator),
         Move::Want => want(generator),
         Move::Near => near(generator),
         Move::GiveBack => give_back(generator),
-        Move::Restart => restart(world, generator),
-        Move::Trouble => trouble(generator.draw(10), world.fence()),
+        Move::Restart => restart(running, generator),
+        Move::Trouble => trouble(generator.draw(10), running.fence()),
     }
 }
 
 // The events of the next step.
-pub(crate) fn choose(world: &World, generator: &mut Generator) -> Choice
-    ensures chooses { (w : WrittenWorld) → IsWorld w → StandsFor world.now w → Chooses (chosen w generator.old) result generator.new }
+pub(crate) fn choose(running: &Running, generator: &mut Generator) -> Choice
+    ensures chooses { (w : WrittenWorld) → IsWorld w → StandsFor running.now w → Chooses (chosen w generator.old) result generator.new }
     ensures lines { AreLines result }
 {
     let kind = move_of(generator.draw(12));
-    choose_by(kind, world, generator)
+    choose_by(kind, running, generator)
 }

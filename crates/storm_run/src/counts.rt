@@ -6,17 +6,17 @@ ghost use Rattle.fuxi_terms.specs.Jobs.{unit_count};
 ghost use Rattle.fuxi_terms.specs.Lists.{below};
 ghost use Rattle.fuxi_terms.specs.Tables.{held};
 ghost use Rattle.app_master.specs.AppCores.{StandsFor as AppStandsFor};
-ghost use Rattle.written_roles.specs.Apps.{AppRole, held_by};
+ghost use Rattle.spec_roles.specs.Apps.{AppRole, held_by};
 ghost use Rattle.grant_table.specs.GrantTables.{as_known};
-ghost use Rattle.schedule_replay.specs.Worlds.{IsWorld, StandsFor};
-ghost use Rattle.written_world.specs.World.{World as WrittenWorld};
+ghost use Rattle.schedule_replay.specs.Worlds.{IsReached, IsWorld, StandsFor};
+ghost use Rattle.spec_world.specs.World.{World as WrittenWorld};
 ghost use Rattle.storm_run.specs.Summaries.{count_of, granted, held_in, rows_in, word_of};
 
 use app_master::AppMaster;
 use grant_table::GrantTable;
 use party_ledgers::RowLedger;
-use party_slots::law;
-use schedule_replay::World;
+use running_parties::law;
+use schedule_replay::Running;
 use schedule_unit::{AppNo, MachineNo, UnitNo};
 
 // What is counted: of a job its grants, of an application what it holds, of an agent the grants in its table.
@@ -31,7 +31,7 @@ pub enum Count {
 fn count_grants(table: &GrantTable, app: AppNo) -> u64
     ensures { result ≡ sum_by (held table.now.entries app.0) (below (unit_count (as_known table.now.jobs) app.0)) }
 {
-    let _cluster = table.cluster();
+    table.is_sound();
     let mut total = 0u64;
     for unit in 0..table.units(app) as u8 {
         total += table.held(app, UnitNo(unit)) as u64;
@@ -40,11 +40,11 @@ fn count_grants(table: &GrantTable, app: AppNo) -> u64
 }
 
 // The grants of a job in the table of the newest master.
-fn granted(world: &World, app: AppNo) -> u64
-    ensures { (w : WrittenWorld) → IsWorld w → StandsFor world.now w → result ≡ granted w app.0 }
+fn granted(running: &Running, app: AppNo) -> u64
+    ensures { (w : WrittenWorld) → IsWorld w → StandsFor running.now w → result ≡ granted w app.0 }
 {
     law::parties_run();
-    match world.master(world.fence()) {
+    match running.master(running.fence()) {
         Some(master) => count_grants(master.table(), app),
         None => 0,
     }
@@ -75,13 +75,13 @@ fn count_held(app: &AppMaster) -> u64
     total
 }
 
-fn held(world: &World, app: AppNo) -> u64
-    ensures { (w : WrittenWorld) → IsWorld w → StandsFor world.now w → result ≡ held_in w app.0 }
+// What runs is of a valid cluster, which has few machines.
+fn held(running: &Running, app: AppNo) -> u64
+    requires { IsReached running.now }
+    ensures { (w : WrittenWorld) → IsWorld w → StandsFor running.now w → result ≡ held_in w app.0 }
 {
-    // What runs is of a valid cluster, which has few machines.
-    world.is_reached();
     law::parties_run();
-    match world.app(app) {
+    match running.app(app) {
         Some(master) => count_held(master),
         None => 0,
     }
@@ -98,24 +98,25 @@ fn count_rows(table: &RowLedger) -> u64
     total
 }
 
-fn rows(world: &World, machine: MachineNo) -> u64
-    ensures { (w : WrittenWorld) → IsWorld w → StandsFor world.now w → result ≡ rows_in w machine.0 }
+fn rows(running: &Running, machine: MachineNo) -> u64
+    ensures { (w : WrittenWorld) → IsWorld w → StandsFor running.now w → result ≡ rows_in w machine.0 }
 {
     law::parties_run();
-    match world.agent(machine) {
+    match running.agent(machine) {
         Some(agent) => count_rows(agent.table()),
         None => 0,
     }
 }
 
 // What is counted of the job, the application or the agent of this number.
-pub(crate) fn count_of(world: &World, what: Count, number: u32) -> u64
-    ensures { (w : WrittenWorld) → IsWorld w → StandsFor world.now w → result ≡ count_of what w number }
+pub(crate) fn count_of(running: &Running, what: Count, number: u32) -> u64
+    requires { IsReached running.now }
+    ensures { (w : WrittenWorld) → IsWorld w → StandsFor running.now w → result ≡ count_of what w number }
 {
     match what {
-        Count::Granted => granted(world, AppNo(number)),
-        Count::Held => held(world, AppNo(number)),
-        Count::Rows => rows(world, MachineNo(number)),
+        Count::Granted => granted(running, AppNo(number)),
+        Count::Held => held(running, AppNo(number)),
+        Count::Rows => rows(running, MachineNo(number)),
     }
 }
 

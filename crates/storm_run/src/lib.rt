@@ -1,4 +1,4 @@
-//! A large schedule that is made from a number, run over the whole scheduler, and a summary of the world at its end.
+//! A large schedule that a number makes, run over the whole scheduler, and the summary of its end, which is quiet.
 #![tactic(auto)]
 
 mod choices;

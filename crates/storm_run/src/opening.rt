@@ -1,11 +1,12 @@
 //! The first events.
 
-ghost use Rattle.std.specs.Prelude.{◌≡◌, ◌+◌, ◌<◌, ◌≤◌, ◌^◌, IfOk};
+ghost use Rattle.std.specs.Prelude.{◌≡◌, ◌+◌, ◌<◌, ◌≤◌, ◌^◌, IfOk, OnOk};
 ghost use Rattle.schedule_replay.specs.LineEvents.{event_as};
+ghost use Rattle.schedule_replay.specs.Worlds.{IsReached};
 ghost use Rattle.schedule_text.specs.Writing.{IsLineEvent};
-ghost use Rattle.written_world.specs.Events.{Submit};
+ghost use Rattle.spec_world.specs.Events.{Submit};
 ghost use Rattle.storm_run.specs.Storms.{job, opened, submitted, taken};
-ghost use Rattle.storm_run.specs.StormRuns.{Runs};
+ghost use Rattle.storm_run.specs.StormRuns.{Runs, outcome};
 
 use crate::orders::PeerOrder;
 use crate::run::Run;
@@ -42,18 +43,20 @@ fn submission(
 }
 
 fn submit(
-    run: Run,
+    run: &mut Run,
     alloc: Global,
     app: AppNo,
     group: GroupNo,
     priority: u64,
     size: [u64; 2],
-) -> Result<Run, WorldStop>
+) -> Result<(), WorldStop>
     requires app { app.0 < 256 }
     requires group { group.0 < 32 }
-    requires few { run.events < 2 ^ 29 }
-    ensures runs { Runs (λ w. taken w (Submit 1 (job app.0 group.0 priority size))) run result }
-    ensures events { IfOk result (λ after. after.events ≡ run.events + 1) }
+    requires reached { IsReached run.old }
+    requires few { run.old.events < 2 ^ 29 }
+    ensures runs { Runs (λ w. taken w (Submit 1 (job app.0 group.0 priority size))) run.old (outcome run.new result) }
+    ensures reached { OnOk result (IsReached run.new) }
+    ensures events { OnOk result (run.new.events ≡ run.old.events + 1) }
 {
     match submission(alloc, app, group, priority, size) {
         Ok(event) => run.take(alloc, &event),
@@ -61,39 +64,43 @@ fn submit(
     }
 }
 
-fn submit_all(run: Run, alloc: Global) -> Result<Run, WorldStop>
-    requires few { run.events + 3 ≤ 2 ^ 29 }
-    ensures runs { Runs submitted run result }
-    ensures events { IfOk result (λ after. after.events ≡ run.events + 3) }
+fn submit_all(run: &mut Run, alloc: Global) -> Result<(), WorldStop>
+    requires reached { IsReached run.old }
+    requires few { run.old.events + 3 ≤ 2 ^ 29 }
+    ensures runs { Runs submitted run.old (outcome run.new result) }
+    ensures reached { OnOk result (IsReached run.new) }
+    ensures events { OnOk result (run.new.events ≡ run.old.events + 3) }
 {
-    let run = match submit(run, alloc, AppNo(0), GroupNo(0), 5, [100, 400]) {
-        Ok(run) => run,
+    match submit(run, alloc, AppNo(0), GroupNo(0), 5, [100, 400]) {
+        Ok(()) => {}
         Err(stop) => return Err(stop),
-    };
-    let run = match submit(run, alloc, AppNo(1), GroupNo(0), 3, [200, 300]) {
-        Ok(run) => run,
+    }
+    match submit(run, alloc, AppNo(1), GroupNo(0), 3, [200, 300]) {
+        Ok(()) => {}
         Err(stop) => return Err(stop),
-    };
+    }
     submit(run, alloc, AppNo(2), GroupNo(1), 4, [50, 700])
 }
 
 // The first events: a master, all agents, three jobs, and their applications.
-pub(crate) fn open(run: Run, alloc: Global) -> Result<Run, WorldStop>
-    requires few { run.events ≡ 0 }
-    ensures runs { Runs opened run result }
-    ensures events { IfOk result (λ after. after.events ≤ 20) }
+pub(crate) fn open(run: &mut Run, alloc: Global) -> Result<(), WorldStop>
+    requires reached { IsReached run.old }
+    requires few { run.old.events ≡ 0 }
+    ensures runs { Runs opened run.old (outcome run.new result) }
+    ensures reached { OnOk result (IsReached run.new) }
+    ensures events { OnOk result (run.new.events ≤ 20) }
 {
-    let run = match run.take(alloc, &Event::Master(1)) {
-        Ok(run) => run,
+    match run.take(alloc, &Event::Master(1)) {
+        Ok(()) => {}
         Err(stop) => return Err(stop),
-    };
-    let run = match run.tell_each(alloc, PeerOrder::StartAgent, 8) {
-        Ok(run) => run,
+    }
+    match run.tell_each(alloc, PeerOrder::StartAgent, 8) {
+        Ok(()) => {}
         Err(stop) => return Err(stop),
-    };
-    let run = match submit_all(run, alloc) {
-        Ok(run) => run,
+    }
+    match submit_all(run, alloc) {
+        Ok(()) => {}
         Err(stop) => return Err(stop),
-    };
+    }
     run.tell_each(alloc, PeerOrder::StartApp, 3)
 }

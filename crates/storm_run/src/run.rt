@@ -1,26 +1,26 @@
 //! What runs in a storm.
 
-ghost use Rattle.std.specs.Prelude.{◌≡◌, ◌+◌, ◌<◌, ◌≤◌, ◌^◌, IfOk};
+ghost use Rattle.std.specs.Prelude.{◌≡◌, ◌+◌, ◌<◌, ◌≤◌, ◌^◌, IfOk, OnOk};
 ghost use Rattle.schedule_replay.specs.LineEvents.{event_as};
-ghost use Rattle.schedule_replay.specs.Worlds.{IsWorld, StandsFor};
+ghost use Rattle.schedule_replay.specs.Worlds.{IsReached, IsWorld, StandsFor};
 ghost use Rattle.schedule_text.specs.Writing.{IsLineEvent};
-ghost use Rattle.written_world.specs.World.{empty_world};
+ghost use Rattle.spec_world.specs.World.{empty_world};
 ghost use Rattle.storm_run.specs.Storms.{taken, all_taken, each};
-ghost use Rattle.storm_run.specs.StormRuns.{listed, events_in, told, IsLine, AreLines, Runs};
+ghost use Rattle.storm_run.specs.StormRuns.{listed, events_in, told, IsLine, AreLines, Runs, outcome};
 
 use crate::choices::Choice;
 use crate::orders::{PeerOrder, peer_event};
 use cluster_desc::Cluster;
 use fuxi_terms::OutOfMemory;
-use schedule_replay::{World, WorldStop};
+use schedule_replay::{Running, WorldStop};
 use schedule_text::Event;
 use std::alloc::Global;
 use std::marker::Model;
 
-// The world of a storm, with room for what an event prints. Seen as the world.
+// What runs in a storm, with one room for what each event prints. Seen as what runs. After a stop nothing is said of it.
 #[derive(Drop)]
 pub(crate) struct Run {
-    world: World,
+    running: Running,
     text: Vec<u8>,
 }
 
@@ -29,91 +29,94 @@ impl Model for Run {
 
     ghost Value = { WorldRecord };
 
-    ghost view = { λ r. r.world };
+    ghost view = { λ r. r.running };
 }
 
 impl Run {
-    // The world of a cluster in which nothing has happened.
+    // What runs on a cluster in which nothing has happened.
     pub(crate) fn start(alloc: Global, cluster: Cluster) -> Result<Run, OutOfMemory>
         ensures world { IsWorld (empty_world cluster) }
         ensures stands { IfOk result (λ run. StandsFor run (empty_world cluster)) }
+        ensures reached { IfOk result IsReached }
         ensures events { IfOk result (λ run. run.events ≡ 0) }
     {
-        match World::start(alloc, cluster) {
-            Ok(world) => Ok(Run {
-                world,
+        match Running::start(alloc, cluster) {
+            Ok(running) => Ok(Run {
+                running,
                 text: Vec::new(alloc),
             }),
             Err(refusal) => Err(refusal),
         }
     }
 
-    pub(crate) fn world(&self) -> &World
+    pub(crate) fn running(&self) -> &Running
         ensures { result.now ≡ self.now }
     {
-        &self.world
+        &self.running
     }
 
     // One event. What it prints is dropped.
-    pub(crate) fn take(self, alloc: Global, event: &Event) -> Result<Run, WorldStop>
+    pub(crate) fn take(&mut self, alloc: Global, event: &Event) -> Result<(), WorldStop>
         requires line { IsLineEvent event.now }
-        requires few { self.events < 2 ^ 29 }
-        ensures runs { Runs (λ w. taken w (event_as event.now)) self result }
-        ensures events { IfOk result (λ after. after.events ≡ self.events + 1) }
+        requires reached { IsReached self.old }
+        requires few { self.old.events < 2 ^ 29 }
+        ensures runs { Runs (λ w. taken w (event_as event.now)) self.old (outcome self.new result) }
+        ensures reached { OnOk result (IsReached self.new) }
+        ensures events { OnOk result (self.new.events ≡ self.old.events + 1) }
     {
-        let Run { world, text } = self;
-        let mut text = text;
-        match world.step(alloc, event, &mut text) {
-            Ok(world) => Ok(Run { world, text }),
-            Err(stop) => Err(stop),
-        }
+        self.running.step(alloc, event, &mut self.text)
     }
 
     // An event, where there is one.
-    pub(crate) fn take_if(self, alloc: Global, event: &Option<Event>) -> Result<Run, WorldStop>
+    pub(crate) fn take_if(&mut self, alloc: Global, event: &Option<Event>) -> Result<(), WorldStop>
         requires line { IsLine event.now }
-        requires few { self.events < 2 ^ 29 }
-        ensures runs { Runs (all_taken (listed event.now)) self result }
-        ensures events { IfOk result (λ after. after.events ≤ self.events + 1) }
+        requires reached { IsReached self.old }
+        requires few { self.old.events < 2 ^ 29 }
+        ensures runs { Runs (all_taken (listed event.now)) self.old (outcome self.new result) }
+        ensures reached { OnOk result (IsReached self.new) }
+        ensures events { OnOk result (self.new.events ≤ self.old.events + 1) }
     {
         match event {
-            None => Ok(self),
+            None => Ok(()),
             Some(event) => self.take(alloc, event),
         }
     }
 
     // The events of a step.
-    pub(crate) fn take_choice(self, alloc: Global, choice: &Choice) -> Result<Run, WorldStop>
+    pub(crate) fn take_choice(&mut self, alloc: Global, choice: &Choice) -> Result<(), WorldStop>
         requires lines { AreLines choice.now }
-        requires few { self.events + 2 ≤ 2 ^ 29 }
-        ensures runs { Runs (all_taken (events_in choice.now)) self result }
-        ensures events { IfOk result (λ after. after.events ≤ self.events + 2) }
+        requires reached { IsReached self.old }
+        requires few { self.old.events + 2 ≤ 2 ^ 29 }
+        ensures runs { Runs (all_taken (events_in choice.now)) self.old (outcome self.new result) }
+        ensures reached { OnOk result (IsReached self.new) }
+        ensures events { OnOk result (self.new.events ≤ self.old.events + 2) }
     {
         match self.take_if(alloc, &choice.before) {
-            Ok(run) => run.take_if(alloc, &choice.event),
+            Ok(()) => self.take_if(alloc, &choice.event),
             Err(stop) => Err(stop),
         }
     }
 
     // What each of so many peers is told.
     pub(crate) fn tell_each(
-        self,
+        &mut self,
         alloc: Global,
         order: PeerOrder,
         count: u32,
-    ) -> Result<Run, WorldStop>
+    ) -> Result<(), WorldStop>
         requires count { count ≤ 8 }
-        requires few { self.events + 8 ≤ 2 ^ 29 }
-        ensures runs { Runs (each count (λ n w. taken w (told order n))) self result }
-        ensures events { IfOk result (λ after. after.events ≤ self.events + 8) }
+        requires reached { IsReached self.old }
+        requires few { self.old.events + 8 ≤ 2 ^ 29 }
+        ensures runs { Runs (each count (λ n w. taken w (told order n))) self.old (outcome self.new result) }
+        ensures reached { OnOk result (IsReached self.new) }
+        ensures events { OnOk result (self.new.events ≤ self.old.events + 8) }
     {
-        let mut run = self;
         for number in 0..count {
-            run = match run.take(alloc, &peer_event(order, number)) {
-                Ok(run) => run,
+            match self.take(alloc, &peer_event(order, number)) {
+                Ok(()) => {}
                 Err(stop) => return Err(stop),
-            };
+            }
         }
-        Ok(run)
+        Ok(())
     }
 }

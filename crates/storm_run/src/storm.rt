@@ -2,6 +2,7 @@
 
 ghost use Rattle.std.specs.Prelude.{◌≡◌, ◌≢◌, ◌≤◌, IfOk, IfErr};
 ghost use Rattle.fuxi_io.specs.Causes.{Rose};
+ghost use Rattle.schedule_replay.specs.Worlds.{IsReached};
 ghost use Rattle.storm_run.specs.StormRuns.{Ends, StormEnded, StoppedAt, stop_status};
 ghost use Rattle.storm_run.specs.Storms.{most_storm_steps, storm};
 ghost use Rattle.storm_run.specs.Summaries.{storm_of};
@@ -23,24 +24,28 @@ pub const MOST_STEPS: u64 = 10_000;
 // What runs at the end of the storm.
 fn play(alloc: Global, seed: u64, steps: u64) -> Result<Run, WorldStop>
     requires { steps ≤ most_storm_steps }
-    ensures { Ends (storm seed steps) result }
+    ensures ends { Ends (storm seed steps) result }
+    ensures reached { IfOk result IsReached }
 {
     let Ok(cluster) = make_cluster(alloc) else {
         return Err(WorldStop::OutOfMemory);
     };
-    let Ok(run) = Run::start(alloc, cluster) else {
+    let Ok(mut run) = Run::start(alloc, cluster) else {
         return Err(WorldStop::OutOfMemory);
     };
-    let run = match open(run, alloc) {
-        Ok(run) => run,
+    match open(&mut run, alloc) {
+        Ok(()) => {}
         Err(stop) => return Err(stop),
-    };
+    }
     let mut generator = Generator::from_seed(seed);
-    let run = match step_all(run, alloc, &mut generator, steps) {
-        Ok(run) => run,
+    match step_all(&mut run, alloc, &mut generator, steps) {
+        Ok(()) => {}
         Err(stop) => return Err(stop),
-    };
-    close(run, alloc)
+    }
+    match close(&mut run, alloc) {
+        Ok(()) => Ok(run),
+        Err(stop) => Err(stop),
+    }
 }
 
 // Its text.

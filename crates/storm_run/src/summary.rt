@@ -1,14 +1,14 @@
 //! The summary.
 
 ghost use Rattle.std.specs.Prelude.{◌≡◌, ◌++◌, [], ◌∷◌, IfOk, OnOk, codes, length};
-ghost use Rattle.schedule_replay.specs.Worlds.{IsWorld, StandsFor};
-ghost use Rattle.written_world.specs.World.{World as WrittenWorld};
+ghost use Rattle.schedule_replay.specs.Worlds.{IsReached, IsWorld, StandsFor};
+ghost use Rattle.spec_world.specs.World.{World as WrittenWorld};
 ghost use Rattle.storm_run.specs.Summaries.{answer, count_lines, line, summary};
 
 use crate::counts::{Count, count_of, word};
 use crate::run::Run;
 use fuxi_terms::OutOfMemory;
-use schedule_replay::World;
+use schedule_replay::Running;
 use schedule_unit::write_number;
 use std::alloc::Global;
 
@@ -27,15 +27,16 @@ fn write_line(word: &[u8], numbers: &[u64], out: &mut Vec<u8>) -> Result<(), Out
 
 // The lines of the numbers below one.
 fn write_counts(
-    world: &World,
+    running: &Running,
     what: Count,
     numbers: u32,
     out: &mut Vec<u8>,
 ) -> Result<(), OutOfMemory>
-    ensures { OnOk result ((w : WrittenWorld) → IsWorld w → StandsFor world.now w → out.new.items ≡ out.old.items ++ count_lines what numbers w) }
+    requires { IsReached running.now }
+    ensures { OnOk result ((w : WrittenWorld) → IsWorld w → StandsFor running.now w → out.new.items ≡ out.old.items ++ count_lines what numbers w) }
 {
     for number in 0..numbers {
-        let counted = count_of(world, what, number);
+        let counted = count_of(running, what, number);
         write_line(word(what), &[number as u64, counted], out)?;
     }
     Ok(())
@@ -55,9 +56,9 @@ fn write_head(run: &Run, seed: u64, steps: u64, out: &mut Vec<u8>) -> Result<(),
         ++ (line (codes "storm") (seed ∷ steps ∷ []) ++ (line (codes "events") (w.events ∷ []) ++ (line (codes "packets") (length w.net.packets ∷ []) ++ line (codes "fence") (w.hard.fence ∷ []))))) }
 {
     write_line(b"storm", &[seed, steps], out)?;
-    write_line(b"events", &[run.world().steps()], out)?;
-    write_line(b"packets", &[run.world().packets()], out)?;
-    write_line(b"fence", &[run.world().fence()], out)
+    write_line(b"events", &[run.running().steps()], out)?;
+    write_line(b"packets", &[run.running().packets()], out)?;
+    write_line(b"fence", &[run.running().fence()], out)
 }
 
 // The summary of the world at the end of a storm.
@@ -67,14 +68,15 @@ pub(crate) fn summarize(
     seed: u64,
     steps: u64,
 ) -> Result<Vec<u8>, OutOfMemory>
+    requires { IsReached run.now }
     ensures { IfOk result (λ text. (w : WrittenWorld) → IsWorld w → StandsFor run.now w → text.items ≡ summary seed steps w) }
 {
     let mut out = Vec::new(alloc);
-    let world = run.world();
+    let running = run.running();
     write_head(run, seed, steps, &mut out)?;
-    write_counts(world, Count::Granted, 3, &mut out)?;
-    write_counts(world, Count::Held, 3, &mut out)?;
-    write_counts(world, Count::Rows, 8, &mut out)?;
-    write_answer(world.quiet(world.fence()), &mut out)?;
+    write_counts(running, Count::Granted, 3, &mut out)?;
+    write_counts(running, Count::Held, 3, &mut out)?;
+    write_counts(running, Count::Rows, 8, &mut out)?;
+    write_answer(running.quiet(running.fence()), &mut out)?;
     Ok(out)
 }

@@ -1,5 +1,4 @@
-use fuxi_io::Failed;
-use node_door::{Door, TcpDoor};
+use fuxi_io::{Door, Failed, TcpDoor};
 use std::io::{Read, Write};
 use std::net::TcpListener;
 use std::test::Fail;

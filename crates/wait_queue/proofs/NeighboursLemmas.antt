@@ -5,9 +5,9 @@ use Rattle.std.proofs.lemmas.Option.{same_Some}
 use Rattle.fuxi_terms.proofs.Alls.{all_more, all_front, all_back}
 use Rattle.slot_pool.specs.declared.pool.Slot.{Slot}
 use Rattle.wait_queue.specs.declared.node.Node.{Node}
-use Rattle.wait_queue.specs.Queues.{Item, IsOutside, first_of, last_of, AreLinked}
+use Rattle.wait_queue.specs.Queues.{Item, IsOutside, first_of, last_of, link, AreLinked}
 use Rattle.wait_queue.specs.Neighbours.{Relinked, with_behind, with_before, Follows}
-use Rattle.wait_queue.proofs.QueuesLemmas.{AreDistinct, distinct_parts, outside_turned, outside_first, outside_last, linked_same}
+use Rattle.wait_queue.proofs.QueuesLemmas.{AreDistinct, distinct_parts, apart_turned, outside_first, outside_last, linked_same}
 
 -- both parts are distinct, and neither has the slot of the other that lies at the seam
 pub record AreParted (front back : List Item) : Type 0 where
@@ -23,11 +23,11 @@ parted front back d =
       front_distinct = parts.0;
       back_distinct = parts.1;
       not_first = all_more (λ (i : Item). IsOutside i.0 back) (λ (i : Item). first_of back None ≢ Some i.0) (λ i o. outside_first i.0 back o) front parts.2;
-      not_last = all_more (λ (i : Item). IsOutside i.0 front) (λ (i : Item). last_of None front ≢ Some i.0) (λ i o. outside_last i.0 front o) back (outside_turned back front parts.2);
+      not_last = all_more (λ (i : Item). IsOutside i.0 front) (λ (i : Item). last_of None front ≢ Some i.0) (λ i o. outside_last i.0 front o) back (apart_turned back front parts.2);
     }
 
 -- the last of linked items is tied to something else, or the first is
-retied_last : (at after : Slot → Option Node) (b f g : Option Slot) (xs : List Item) → AreLinked at b xs f → AreDistinct xs → Relinked at after (last_of b xs) (with_behind g) → AreLinked after b xs g
+retied_last : (at after : Slot → Option Node) (b f g : Option Slot) (xs : List Item) → AreLinked at b xs f → AreDistinct xs → Relinked at after (last_of b xs) (with_behind (link g)) → AreLinked after b xs g
 retied_last at after b f g [] h d r = tt
 retied_last at after b f g (x ∷ []) h d r = (r.changed x.0 _ refl h.0, tt)
 retied_last at after b f g (x ∷ (y ∷ ys)) h d r = (
@@ -39,7 +39,7 @@ retied_last at after b f g (x ∷ (y ∷ ys)) h d r = (
     last_other [] t n o e = n (same_Some t x.0 e)
     last_other (z ∷ zs) t n o e = last_other zs z.0 o.0 o.1 e
 
-retied_first : (at after : Slot → Option Node) (b c f : Option Slot) (xs : List Item) → AreLinked at b xs f → AreDistinct xs → Relinked at after (first_of xs None) (with_before c) → AreLinked after c xs f
+retied_first : (at after : Slot → Option Node) (b c f : Option Slot) (xs : List Item) → AreLinked at b xs f → AreDistinct xs → Relinked at after (first_of xs None) (with_before (link c)) → AreLinked after c xs f
 retied_first at after b c f [] h d r = tt
 retied_first at after b c f (x ∷ xs) h d r = (
   r.changed x.0 _ refl h.0,
@@ -56,12 +56,12 @@ pub record AreTied (at after : Slot → Option Node) (front back : List Item) (b
   pub back_linked : AreLinked after before back None
   pub rest : (s : Slot) → IsOutside s (front ++ back) → after s ≡ at s
 
-pub tied : (at between after : Slot → Option Node) (front back : List Item) (b f behind before : Option Slot) → AreParted front back → AreLinked at None front f → AreLinked at b back None → Relinked at between (last_of None front) (with_behind behind) → Relinked between after (first_of back None) (with_before before) → AreTied at after front back behind before
+pub tied : (at between after : Slot → Option Node) (front back : List Item) (b f behind before : Option Slot) → AreParted front back → AreLinked at None front f → AreLinked at b back None → Relinked at between (last_of None front) (with_behind (link behind)) → Relinked between after (first_of back None) (with_before (link before)) → AreTied at after front back behind before
 tied at between after front back b f behind before p front_was back_was one two =
     let front_tied = retied_last at between None f behind front front_was p.front_distinct one in
     record {
       front_linked = linked_same between after None front behind front_tied (all_more (λ (i : Item). first_of back None ≢ Some i.0) (λ (i : Item). after i.0 ≡ between i.0) (λ i other. two.others i.0 other) front p.not_first);
-      back_linked = retied_first between after b before None back (back_stays at between front back b None (with_behind behind) p back_was one) p.back_distinct two;
+      back_linked = retied_first between after b before None back (back_stays at between front back b None (with_behind (link behind)) p back_was one) p.back_distinct two;
       rest = λ s o. two.others s (outside_first s back (all_back (λ (i : Item). i.0 ≢ s) front back o)) ∙ one.others s (outside_last s front (all_front (λ (i : Item). i.0 ≢ s) front back o));
     }
 

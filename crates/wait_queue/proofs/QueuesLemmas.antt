@@ -1,5 +1,5 @@
 -- Entries in order, items that are linked, and lists as which a queue stands.
-use Rattle.std.proofs.Common.{◌≡◌, ◌≢◌, ℕ, ◌<◌, Bool, true, false, cond, List, [], ◌∷◌, ◌++◌, Option, Some, None, is_some, IsSome, refl, sym, ap, subst, ◌∙◌, inl, inr, arith}
+use Rattle.std.proofs.Common.{◌≡◌, ◌≢◌, ℕ, ◌-◌, ◌<◌, Bool, true, false, cond, nat_eq, nat_lt, List, [], ◌∷◌, ◌++◌, Option, Some, None, is_some, IsSome, refl, sym, ap, subst, ◌∙◌, inl, inr, arith}
 use Rattle.std.specs.Prelude.{option_map, get_or, IfSome, ⊤}
 use Rattle.std.specs.List.{AllByRecursion}
 use Rattle.std.proofs.lemmas.Bool.Decides.{nat_tests, eqb_tells}
@@ -8,36 +8,53 @@ use Rattle.fuxi_terms.proofs.Alls.{all_more, all_append, all_front, all_back}
 use Rattle.slot_pool.specs.Pools.{PoolRecord, value_at, generation_at}
 use Rattle.slot_pool.specs.declared.pool.Slot.{Slot}
 use Rattle.wait_queue.specs.declared.node.Entry.{Entry}
+use Rattle.wait_queue.specs.declared.node.Link.{Link}
 use Rattle.wait_queue.specs.declared.node.Node.{Node}
 use Rattle.wait_queue.specs.declared.queue.Queue.{Queue}
-use Rattle.wait_queue.specs.Queues.{Item, is_before, IsInRange, rank, AreBefore, AreBehind, IsInOrder, IsOutside, first_of, last_of, link, entry_at, AreLinked, Stands, HasPlace, MayEnter}
+use Rattle.wait_queue.specs.Queues.{Item, is_before, IsInRange, rank, AreBefore, AreBehind, IsInOrder, IsOutside, Apart, first_of, last_of, link, entry_at, AreLinked, Stands, HasPlace, MayEnter}
 
 -- No entry is before itself, two are not before one another, one of two turns is before the other, and what is before another is before all behind that one.
-pub not_itself : (a : Entry) → is_before a a ≡ true → ⊥
-not_itself a h = grind (arith, nat_tests)
+pub not_itself : (k : Bool) (a : Entry) → is_before k a a ≡ true → ⊥
+not_itself true a h = grind (arith, nat_tests)
+not_itself false a h = grind (arith, nat_tests)
 
-pub not_both : (a b : Entry) → is_before a b ≡ true → is_before b a ≡ true → ⊥
-not_both a b h g = grind (arith, nat_tests)
+pub not_both : (k : Bool) (a b : Entry) → is_before k a b ≡ true → is_before k b a ≡ true → ⊥
+not_both true a b h g = grind (arith, nat_tests)
+not_both false a b h g = grind (arith, nat_tests)
 
-pub one_before : (a b : Entry) → a.turn ≢ b.turn → is_before a b ≡ false → is_before b a ≡ true
-one_before a b d h = grind (arith, nat_tests)
+pub one_before : (k : Bool) (a b : Entry) → a.turn ≢ b.turn → is_before k a b ≡ false → is_before k b a ≡ true
+one_before true a b d h = grind (arith, nat_tests)
+one_before false a b d h = grind (arith, nat_tests)
 
-pub before_all : (a b c : Entry) → is_before a b ≡ true → is_before b c ≡ true → is_before a c ≡ true
-before_all a b c h g = grind (arith, nat_tests)
+pub before_all : (k : Bool) (a b c : Entry) → is_before k a b ≡ true → is_before k b c ≡ true → is_before k a c ≡ true
+before_all true a b c h g = grind (arith, nat_tests)
+before_all false a b c h g = grind (arith, nat_tests)
 
-pub rank_rises : (a b : Entry) → IsInRange a → IsInRange b → is_before a b ≡ true → rank a < rank b
-rank_rises a b f g h = grind (arith, nat_tests, f, g)
+pub rank_rises : (k : Bool) (a b : Entry) → IsInRange a → IsInRange b → is_before k a b ≡ true → rank k a < rank k b
+rank_rises true a b f g h = by_priority (nat_eq a.priority b.priority) refl
+  where
+    by_priority : (t : Bool) → nat_eq a.priority b.priority ≡ t → rank true a < rank true b
+    by_priority true e =
+        let less : nat_lt a.turn b.turn ≡ true = subst (λ t. cond t (nat_lt a.turn b.turn) (nat_lt b.priority a.priority) ≡ true) e h in
+        let same : a.priority ≡ b.priority = grind (arith, nat_tests) in
+        let lower : a.turn < b.turn = grind (arith, nat_tests) in
+        let p : (255 - a.priority) ≡ (255 - b.priority) = ap (λ (n : ℕ). 255 - n) same in omega arith
+    by_priority false e =
+        let less : nat_lt b.priority a.priority ≡ true = subst (λ t. cond t (nat_lt a.turn b.turn) (nat_lt b.priority a.priority) ≡ true) e h in
+        let lower : b.priority < a.priority = grind (arith, nat_tests) in
+        let fa = f.0 in let ga = f.1 in let fb = g.0 in let gb = g.1 in omega arith
+rank_rises false a b f g h = grind (arith, nat_tests)
 
 -- both parts of a list in order, and two that make one
-pub order_parts : (xs ys : List Item) → IsInOrder (xs ++ ys) → IsInOrder xs × IsInOrder ys × AllByRecursion (λ (i : Item). AreBehind i.1 ys) xs
-order_parts [] ys h = (tt, h, tt)
-order_parts (x ∷ xs) ys h =
-    let r = order_parts xs ys h.1 in
-    ((all_front (λ (i : Item). is_before x.1 i.1 ≡ true) xs ys h.0, r.0), r.1, (all_back (λ (i : Item). is_before x.1 i.1 ≡ true) xs ys h.0, r.2))
+pub order_parts : (k : Bool) (xs ys : List Item) → IsInOrder k (xs ++ ys) → IsInOrder k xs × IsInOrder k ys × AllByRecursion (λ (i : Item). AreBehind k i.1 ys) xs
+order_parts k [] ys h = (tt, h, tt)
+order_parts k (x ∷ xs) ys h =
+    let r = order_parts k xs ys h.1 in
+    ((all_front (λ (i : Item). is_before k x.1 i.1 ≡ true) xs ys h.0, r.0), r.1, (all_back (λ (i : Item). is_before k x.1 i.1 ≡ true) xs ys h.0, r.2))
 
-pub order_append : (xs ys : List Item) → IsInOrder xs → IsInOrder ys → AllByRecursion (λ (i : Item). AreBehind i.1 ys) xs → IsInOrder (xs ++ ys)
-order_append [] ys h g b = g
-order_append (x ∷ xs) ys h g b = (all_append (λ (i : Item). is_before x.1 i.1 ≡ true) xs ys h.0 b.0, order_append xs ys h.1 g b.1)
+pub order_append : (k : Bool) (xs ys : List Item) → IsInOrder k xs → IsInOrder k ys → AllByRecursion (λ (i : Item). AreBehind k i.1 ys) xs → IsInOrder k (xs ++ ys)
+order_append k [] ys h g b = g
+order_append k (x ∷ xs) ys h g b = (all_append (λ (i : Item). is_before k x.1 i.1 ≡ true) xs ys h.0 b.0, order_append k xs ys h.1 g b.1)
 
 -- what holds where there is none, and of each slot of the list, holds of the first and of the last
 pub first_all : (P : Option Slot → Type 0) (xs : List Item) (next : Option Slot) → P next → AllByRecursion (λ (i : Item). P (Some i.0)) xs → P (first_of xs next)
@@ -90,12 +107,12 @@ abbrev pub AreDistinct : List Item → Type 0
 AreDistinct [] = ⊤
 AreDistinct (i ∷ is) = IsOutside i.0 is × AreDistinct is
 
-pub order_distinct : (at : Slot → Option Node) (b : Option Slot) (xs : List Item) (f : Option Slot) → AreLinked at b xs f → IsInOrder xs → AreDistinct xs
-order_distinct at b [] f h o = tt
-order_distinct at b (x ∷ xs) f h o = (
+pub order_distinct : (at : Slot → Option Node) (k : Bool) (b : Option Slot) (xs : List Item) (f : Option Slot) → AreLinked at b xs f → IsInOrder k xs → AreDistinct xs
+order_distinct at k b [] f h o = tt
+order_distinct at k b (x ∷ xs) f h o = (
   outside_entries at x.0 x.1 xs (ap (λ (o : Option Node). option_map (λ (n : Node). n.entry) o) h.0) (linked_entries at (Some x.0) xs f h.1)
-      (all_more (λ (i : Item). is_before x.1 i.1 ≡ true) (λ (i : Item). i.1 ≢ x.1) (λ i before same. not_itself x.1 (subst (λ (a : Entry). is_before x.1 a ≡ true) same before)) xs o.0),
-  order_distinct at (Some x.0) xs f h.1 o.1,
+      (all_more (λ (i : Item). is_before k x.1 i.1 ≡ true) (λ (i : Item). i.1 ≢ x.1) (λ i before same. not_itself k x.1 (subst (λ (a : Entry). is_before k x.1 a ≡ true) same before)) xs o.0),
+  order_distinct at k (Some x.0) xs f h.1 o.1,
 )
 
 pub distinct_parts : (xs ys : List Item) → AreDistinct (xs ++ ys) → AreDistinct xs × AreDistinct ys × AllByRecursion (λ (i : Item). IsOutside i.0 ys) xs
@@ -105,11 +122,11 @@ distinct_parts (x ∷ xs) ys h =
     ((all_front (λ (i : Item). i.0 ≢ x.0) xs ys h.0, r.0), r.1, (all_back (λ (i : Item). i.0 ≢ x.0) xs ys h.0, r.2))
 
 -- lists that share no slot share none the other way round
-pub outside_turned : (xs ys : List Item) → AllByRecursion (λ (j : Item). IsOutside j.0 xs) ys → AllByRecursion (λ (i : Item). IsOutside i.0 ys) xs
-outside_turned [] ys h = tt
-outside_turned (x ∷ xs) ys h = (
+pub apart_turned : (xs ys : List Item) → Apart xs ys → Apart ys xs
+apart_turned [] ys h = tt
+apart_turned (x ∷ xs) ys h = (
   all_more (λ (j : Item). IsOutside j.0 (x ∷ xs)) (λ (j : Item). j.0 ≢ x.0) (λ j o same. o.0 (sym same)) ys h,
-  outside_turned xs ys (all_more (λ (j : Item). IsOutside j.0 (x ∷ xs)) (λ (j : Item). IsOutside j.0 xs) (λ j o. o.1) ys h),
+  apart_turned xs ys (all_more (λ (j : Item). IsOutside j.0 (x ∷ xs)) (λ (j : Item). IsOutside j.0 xs) (λ j o. o.1) ys h),
 )
 
 -- a slot that is outside is neither the first nor the last
@@ -167,11 +184,11 @@ first_live at b xs f h = first_all (λ (o : Option Slot). IfSome o (λ s. IsSome
 pub last_live : (at : Slot → Option Node) (b : Option Slot) (xs : List Item) (f : Option Slot) → AreLinked at b xs f → IfSome (last_of None xs) (λ s. IsSome (at s))
 last_live at b xs f h = last_all (λ (o : Option Slot). IfSome o (λ s. IsSome (at s))) None xs tt (linked_live at b xs f h)
 
-link_one : (at : Slot → Option Node) → OnePerNumber at → (o p : Option Slot) → link o ≡ link p → IfSome o (λ s. IsSome (at s)) → IfSome p (λ s. IsSome (at s)) → o ≡ p
+pub link_one : (at : Slot → Option Node) → OnePerNumber at → (o p : Option Slot) → link o ≡ link p → IfSome o (λ s. IsSome (at s)) → IfSome p (λ s. IsSome (at s)) → o ≡ p
 link_one at u None None e h g = refl
-link_one at u None (Some t) e h g = absurd (cc)
-link_one at u (Some s) None e h g = absurd (cc)
-link_one at u (Some s) (Some t) e h g = ap (λ (r : Slot). Some r) (u.one s t h g (same_Some s.number t.number e))
+link_one at u None (Some t) e h g = let n = ap (λ (l : Link). l.0) e in absurd (omega (arith, n))
+link_one at u (Some s) None e h g = let n = ap (λ (l : Link). l.0) e in absurd (omega (arith, n))
+link_one at u (Some s) (Some t) e h g = ap (λ (r : Slot). Some r) (u.one s t h g (let n = ap (λ (l : Link). l.0) e in omega (arith, n)))
 
 pub same_items : (at : Slot → Option Node) → OnePerNumber at → (b c : Option Slot) (xs ys : List Item) → AreLinked at b xs None → AreLinked at c ys None → first_of xs None ≡ first_of ys None → xs ≡ ys
 same_items at u b c [] [] h g e = refl
@@ -198,10 +215,14 @@ pub all_items : (P : Item → Type 0) → ((i : Item) → P i) → (items : List
 all_items P f [] = tt
 all_items P f (i ∷ is) = (f i, all_items P f is)
 
+pub all_both : (P Q R : Item → Type 0) → ((i : Item) → P i → Q i → R i) → (items : List Item) → AllByRecursion P items → AllByRecursion Q items → AllByRecursion R items
+all_both P Q R f [] h g = tt
+all_both P Q R f (i ∷ is) h g = (f i h.0 g.0, all_both P Q R f is h.1 g.1)
+
 -- a slot of a queue is outside of the rest
 pub middle_outside : (at : Slot → Option Node) (q : Queue) (front back : List Item) (s : Slot) (e : Entry) → Stands at q (front ++ (s, e) ∷ back) → IsOutside s (front ++ back)
 middle_outside at q front back s e h =
-    let d = distinct_parts front ((s, e) ∷ back) (order_distinct at None (front ++ (s, e) ∷ back) None h.linked h.ordered) in
+    let d = distinct_parts front ((s, e) ∷ back) (order_distinct at q.key_first None (front ++ (s, e) ∷ back) None h.linked h.ordered) in
     all_append (λ (i : Item). i.0 ≢ s) front back
     (all_more (λ (i : Item). IsOutside i.0 ((s, e) ∷ back)) (λ (i : Item). i.0 ≢ s) (λ i o same. o.0 (sym same)) front d.2)
     d.1.0
@@ -211,24 +232,24 @@ pub middle_node : (at : Slot → Option Node) (q : Queue) (front : List Item) (s
 middle_node at q front s e back h = (linked_parts at None front ((s, e) ∷ back) None h.linked).1.0
 
 -- the place of an entry among entries in order
-record Split (e : Entry) (items : List Item) : Type 0 where
+record Split (k : Bool) (e : Entry) (items : List Item) : Type 0 where
   pub front : List Item
   pub back : List Item
   pub is : items ≡ front ++ back
-  pub front_before : AreBefore e front
-  pub back_behind : AreBehind e back
+  pub front_before : AreBefore k e front
+  pub back_behind : AreBehind k e back
 
-split_by : (e : Entry) (items : List Item) → IsInOrder items → AllByRecursion (λ (i : Item). i.1.turn ≢ e.turn) items → Split e items
-split_by e [] o d = record { front = []; back = []; is = refl; front_before = tt; back_behind = tt }
-split_by e (x ∷ xs) o d = on (is_before x.1 e) refl (split_by e xs o.1 d.1)
+split_by : (k : Bool) (e : Entry) (items : List Item) → IsInOrder k items → AllByRecursion (λ (i : Item). i.1.turn ≢ e.turn) items → Split k e items
+split_by k e [] o d = record { front = []; back = []; is = refl; front_before = tt; back_behind = tt }
+split_by k e (x ∷ xs) o d = on (is_before k x.1 e) refl (split_by k e xs o.1 d.1)
   where
-    on : (b : Bool) → is_before x.1 e ≡ b → Split e xs → Split e (x ∷ xs)
+    on : (b : Bool) → is_before k x.1 e ≡ b → Split k e xs → Split k e (x ∷ xs)
     on true h r = record { front = x ∷ r.front; back = r.back; is = ap (λ (l : List Item). x ∷ l) r.is; front_before = (h, r.front_before); back_behind = r.back_behind }
     on false h r =
-        let here : is_before e x.1 ≡ true = one_before x.1 e d.0 h in
-        record { front = []; back = x ∷ xs; is = refl; front_before = tt; back_behind = (here, all_more (λ (i : Item). is_before x.1 i.1 ≡ true) (λ (i : Item). is_before e i.1 ≡ true) (λ i p. before_all e x.1 i.1 here p) xs o.0) }
+        let here : is_before k e x.1 ≡ true = one_before k x.1 e d.0 h in
+        record { front = []; back = x ∷ xs; is = refl; front_before = tt; back_behind = (here, all_more (λ (i : Item). is_before k x.1 i.1 ≡ true) (λ (i : Item). is_before k e i.1 ≡ true) (λ i p. before_all k e x.1 i.1 here p) xs o.0) }
 
 pub has_place : (at : Slot → Option Node) (q : Queue) (e : Entry) → MayEnter at q e → HasPlace at q e
 has_place at q e h =
-    let s = split_by e h.items h.stands.ordered h.new in
+    let s = split_by q.key_first e h.items h.stands.ordered h.new in
     record { front = s.front; back = s.back; is_place = record { stands = subst (λ (l : List Item). Stands at q l) s.is h.stands; front_before = s.front_before; back_behind = s.back_behind } }

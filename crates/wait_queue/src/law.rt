@@ -1,13 +1,13 @@
 //! What holds of queues that stand in a pool. The functions do nothing; their contracts are the laws.
 
-ghost use Rattle.std.specs.Prelude.{◌≡◌, ◌<◌, List, ◌++◌, ◌∷◌, true, Option, Some, None};
+ghost use Rattle.std.specs.Prelude.{◌≡◌, ◌<◌, List, ◌++◌, ◌∷◌, Bool, true, Option, Some, None};
 ghost use Rattle.std.specs.List.{AllByRecursion};
 ghost use Rattle.slot_pool.specs.Pools.{PoolRecord, value_at};
 ghost use Rattle.slot_pool.specs.declared.pool.Slot.{Slot};
 ghost use Rattle.wait_queue.specs.declared.node.Entry.{Entry};
 ghost use Rattle.wait_queue.specs.declared.node.Node.{Node};
 ghost use Rattle.wait_queue.specs.declared.queue.Queue.{Queue};
-ghost use Rattle.wait_queue.specs.Queues.{Item, Stands, HasPlace, MayEnter, IsOutside, AreBehind, IsInOrder, IsInRange, is_before, rank, entry_at};
+ghost use Rattle.wait_queue.specs.Queues.{Item, Stands, HasPlace, MayEnter, IsOutside, Apart, AreBehind, IsInOrder, IsInRange, is_before, rank, entry_at};
 
 /// A queue stands as one list alone (`one`); at the slot of each item its entry stands (`entries`); no two
 /// items share a slot (`distinct`); a slot that is not live is none of theirs (`absent`); and where no slot
@@ -26,8 +26,10 @@ pub fn places()
 {}
 
 /// Of a list in order both parts are in order and each entry of the first part stands before all of the second
-/// (`parts`). The rank of entries in range rises along the order (`rises`).
+/// (`parts`). The rank of entries in range rises along the order (`rises`). Lists that share no slot share
+/// none the other way round (`apart`).
 pub fn orders()
-    ensures parts { (front back : List Item) → IsInOrder (front ++ back) → IsInOrder front × IsInOrder back × AllByRecursion (λ (i : Item). AreBehind i.1 back) front }
-    ensures rises { (one other : Entry) → IsInRange one → IsInRange other → is_before one other ≡ true → rank one < rank other }
+    ensures parts { (key_first : Bool) (front back : List Item) → IsInOrder key_first (front ++ back) → IsInOrder key_first front × IsInOrder key_first back × AllByRecursion (λ (i : Item). AreBehind key_first i.1 back) front }
+    ensures rises { (key_first : Bool) (one other : Entry) → IsInRange one → IsInRange other → is_before key_first one other ≡ true → rank key_first one < rank key_first other }
+    ensures apart { (items theirs : List Item) → Apart items theirs → Apart theirs items }
 {}

@@ -1,5 +1,5 @@
-//! Queues by priority and turn, linked through a pool of nodes, so that putting an entry in and taking one out
-//! takes no memory.
+//! Queues in an order, linked through a pool of nodes, so that putting an entry in and taking one out takes
+//! no memory.
 #![tactic(auto)]
 
 pub mod law;

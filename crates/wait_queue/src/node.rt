@@ -1,10 +1,10 @@
 //! The nodes of queues, and how one of them is tied to another.
 
-ghost use Rattle.std.specs.Prelude.{◌≡◌, ◌≢◌, ◌<◌, ℕ, IsSome, IfSome, Some, None, Option, List, cond, drop, is_some, set};
+ghost use Rattle.std.specs.Prelude.{◌≡◌, ◌≢◌, ◌<◌, ℕ, IsSome, IfSome, Some, None, Option, List, cond, drop, is_some, nat_eq, set};
 ghost use Rattle.slot_pool.specs.Pools.{value_at};
 ghost use Rattle.slot_pool.specs.declared.pool.Slot.{Slot as SlotRecord};
 ghost use Rattle.wait_queue.specs.Queues.{Item, is_before, band, last_of, link, IsInRange};
-ghost use Rattle.wait_queue.specs.Neighbours.{CanWalk, Walks, Follows, Relinked, with_behind, with_before, has_band, nearest};
+ghost use Rattle.wait_queue.specs.Neighbours.{CanWalk, Walks, Follows, Relinked, with_behind, with_before, has_band, nearest, ends_without};
 
 use schedule_unit::{AppNo, UnitNo};
 use slot_pool::{Pool, Slot};
@@ -21,16 +21,54 @@ pub struct Entry {
     pub turn: u64,
 }
 
-/// An entry in a queue, with the numbers of the slots next to it.
+/// A link to a slot, or to none, in four bytes: the slot's number and one more, or 0.
+#[derive(Clone, Copy, Debug)]
+pub struct Link(pub(crate) u32);
+
+/// A link to no slot.
+pub(crate) const NOWHERE: Link = Link(0);
+
+impl Link {
+    /// The link to the slot, where there is one.
+    pub(crate) fn to(pool: &Pool<Node>, slot: Option<Slot>) -> Link
+        requires { IfSome slot (λ s. IsSome (value_at pool.now s)) }
+        ensures { result ≡ link slot }
+    {
+        pool.bound_numbers();
+        match slot {
+            Some(slot) => Link(slot.number + 1),
+            None => Link(0),
+        }
+    }
+
+    /// The slot that it leads to, where there is one. It is the one that was linked, where that is live.
+    pub(crate) fn slot(self, pool: &Pool<Node>) -> Option<Slot>
+        ensures { (slot : Option SlotRecord) → self ≡ link slot → IfSome slot (λ s. IsSome (value_at pool.now s)) → result ≡ slot }
+    {
+        if self.0 == 0 {
+            return None;
+        }
+        Some(pool.slot(self.0 - 1))
+    }
+
+    /// Whether both lead to the same.
+    pub(crate) fn is(self, other: Link) -> bool
+        ensures { result ≡ nat_eq self.0 other.0 }
+    {
+        self.0 == other.0
+    }
+}
+
+/// An entry in a queue, with links to its neighbours.
 #[derive(Clone, Copy, Debug)]
 pub struct Node {
     pub(crate) entry: Entry,
-    pub(crate) before: Option<u32>,
-    pub(crate) behind: Option<u32>,
+    pub(crate) before: Link,
+    pub(crate) behind: Link,
 }
 
-// With its tag, its generation and its number while that is free it takes 52 bytes of a pool.
-const _: () = prove!(size_of::<Node>() == 32);
+// With its tag, its generation and its number while that is free it takes 44 bytes of a pool.
+const _: () = prove!(size_of::<Node>() == 24);
 
 impl Node {
     /// The entry that stands here.
@@ -41,34 +79,42 @@ impl Node {
     }
 }
 
-/// Whether the one entry stands before the other: by greater priority, then by smaller turn.
-fn stands_before(one: &Entry, other: &Entry) -> bool
-    ensures { result ≡ is_before one.now other.now }
+/// Whether the one entry stands before the other: by greater priority where that comes first, then by
+/// smaller turn.
+fn stands_before(key_first: bool, one: &Entry, other: &Entry) -> bool
+    ensures { result ≡ is_before key_first one.now other.now }
 {
-    if one.priority != other.priority {
+    if key_first && one.priority != other.priority {
         return one.priority > other.priority;
     }
     one.turn < other.turn
 }
 
-/// The band of an entry: its priority, and one band for all from 9 on.
-pub(crate) fn band_of(entry: &Entry) -> usize
-    ensures band { result ≡ band entry.now }
+/// The band of an entry: its priority, and one band for all from 9 on; a single band where only turns count.
+pub(crate) fn band_of(key_first: bool, entry: &Entry) -> usize
+    ensures band { result ≡ band key_first entry.now }
     ensures inside { result < 10 }
 {
-    entry.priority.min(9) as usize
+    let band = entry.priority.min(9) as usize;
+    if key_first { band } else { 0 }
 }
 
 /// The end of a band, and where it has none that of the nearest band of greater priority that has one.
-pub(crate) fn nearest_end(ends: &[Option<Slot>; BANDS], band: usize) -> Option<Slot>
+pub(crate) fn nearest_end(ends: &[Link; BANDS], band: usize) -> Link
+    requires { band < 10 }
     ensures { result ≡ nearest (drop band ends.now) }
 {
-    for place in band..BANDS {
-        if let Some(slot) = ends[place] {
-            return Some(slot);
+    let own = ends[band];
+    if own.0 != 0 {
+        return own;
+    }
+    for place in band + 1..BANDS {
+        let end = ends[place];
+        if end.0 != 0 {
+            return end;
         }
     }
-    None
+    NOWHERE
 }
 
 /// Tells that the numbers of the entry are those of their types.
@@ -79,34 +125,15 @@ pub(crate) fn check_range(entry: &Entry)
     let _priority = entry.priority;
 }
 
-/// The number by which a node links to the slot.
-pub(crate) fn number_of(slot: Option<Slot>) -> Option<u32>
-    ensures { result ≡ link slot }
+/// The link to what stands behind the slot, and where there is no slot to what stands first.
+pub(crate) fn behind_of(pool: &Pool<Node>, slot: Option<Slot>, first: Option<Slot>) -> Link
+    requires live { IfSome slot (λ s. IsSome (value_at pool.now s)) }
+    requires first { IfSome first (λ s. IsSome (value_at pool.now s)) }
+    ensures { (next : Option SlotRecord) → Follows (value_at pool.now) slot first next → result ≡ link next }
 {
     match slot {
-        Some(slot) => Some(slot.number),
-        None => None,
-    }
-}
-
-/// The slot of the number, where there is one. It is the one that was linked, where that is live.
-pub(crate) fn slot_of(pool: &Pool<Node>, number: Option<u32>) -> Option<Slot>
-    ensures { (slot : Option SlotRecord) → number ≡ link slot → IfSome slot (λ s. IsSome (value_at pool.now s)) → result ≡ slot }
-{
-    match number {
-        Some(number) => Some(pool.slot(number)),
-        None => None,
-    }
-}
-
-/// What stands behind the slot, and where there is no slot what stands first.
-pub(crate) fn behind_of(pool: &Pool<Node>, slot: Option<Slot>, first: Option<Slot>) -> Option<Slot>
-    requires { IfSome slot (λ s. IsSome (value_at pool.now s)) }
-    ensures { (next : Option SlotRecord) → Follows (value_at pool.now) slot first next → IfSome next (λ s. IsSome (value_at pool.now s)) → result ≡ next }
-{
-    match slot {
-        Some(slot) => slot_of(pool, pool.get(slot).behind),
-        None => first,
+        Some(slot) => pool.get(slot).behind,
+        None => Link::to(pool, first),
     }
 }
 
@@ -116,81 +143,102 @@ pub(crate) fn tie_behind(
     pool: &mut Pool<Node>,
     first: &mut Option<Slot>,
     slot: Option<Slot>,
-    behind: Option<Slot>,
+    to: Option<Slot>,
 )
-    requires { IfSome slot (λ s. IsSome (value_at pool.old s)) }
-    ensures tied { Relinked (value_at pool.old) (value_at pool.new) slot (with_behind behind) }
-    ensures first { first.new ≡ cond (is_some slot) first.old behind }
+    requires live { IfSome slot (λ s. IsSome (value_at pool.old s)) }
+    requires to { IfSome to (λ s. IsSome (value_at pool.old s)) }
+    ensures tied { Relinked (value_at pool.old) (value_at pool.new) slot (with_behind (link to)) }
+    ensures first { first.new ≡ cond (is_some slot) first.old to }
     ensures spare { pool.new.spare ≡ pool.old.spare }
 {
     match slot {
-        Some(slot) => pool.get_mut(slot).behind = number_of(behind),
-        None => *first = behind,
+        Some(slot) => {
+            let link = Link::to(pool, to);
+            pool.get_mut(slot).behind = link;
+        }
+        None => *first = to,
     }
 }
 
 /// Ties the node at the slot, where there is one, to what is to stand before it.
-pub(crate) fn tie_before(pool: &mut Pool<Node>, slot: Option<Slot>, before: Option<Slot>)
+pub(crate) fn tie_before(pool: &mut Pool<Node>, slot: Option<Slot>, to: Link)
     requires { IfSome slot (λ s. IsSome (value_at pool.old s)) }
-    ensures tied { Relinked (value_at pool.old) (value_at pool.new) slot (with_before before) }
+    ensures tied { Relinked (value_at pool.old) (value_at pool.new) slot (with_before to) }
     ensures spare { pool.new.spare ≡ pool.old.spare }
 {
     if let Some(slot) = slot {
-        pool.get_mut(slot).before = number_of(before);
+        pool.get_mut(slot).before = to;
     }
 }
 
 /// The last slot before the place of the entry, walking back from a slot.
-pub(crate) fn place_of(pool: &Pool<Node>, start: Option<Slot>, entry: &Entry) -> Option<Slot>
-    requires { CanWalk (value_at pool.now) start entry.now }
-    ensures { (front middle : List Item) (next : Option SlotRecord) → Walks (value_at pool.now) start entry.now front middle next → result ≡ last_of None front }
+pub(crate) fn place_of(
+    pool: &Pool<Node>,
+    start: Option<Slot>,
+    key_first: bool,
+    entry: &Entry,
+) -> Option<Slot>
+    requires { CanWalk (value_at pool.now) start key_first entry.now }
+    ensures { (front middle : List Item) (next : Option SlotRecord) → Walks (value_at pool.now) start key_first entry.now front middle next → result ≡ last_of None front }
 {
     let mut place = start;
     while let Some(slot) = place {
         let node = pool.get(slot);
-        if stands_before(&node.entry, entry) {
+        if stands_before(key_first, &node.entry, entry) {
             return place;
         }
-        place = slot_of(pool, node.before);
+        place = node.before.slot(pool);
     }
     place
 }
 
 /// Whether an entry of the band stands at the slot, where there is one.
-pub(crate) fn has_band(pool: &Pool<Node>, slot: Option<Slot>, band: usize) -> bool
+fn has_band(pool: &Pool<Node>, key_first: bool, slot: Option<Slot>, band: usize) -> bool
     requires { IfSome slot (λ s. IsSome (value_at pool.now s)) }
-    ensures { result ≡ has_band (value_at pool.now) band slot }
+    ensures { result ≡ has_band (value_at pool.now) key_first band slot }
 {
     match slot {
-        Some(slot) => band_of(&pool.get(slot).entry) == band,
+        Some(slot) => band_of(key_first, &pool.get(slot).entry) == band,
         None => false,
     }
 }
 
-/// Sets the end of a band, unless an entry of the band stands behind it.
-pub(crate) fn set_end(
-    pool: &Pool<Node>,
-    ends: &mut [Option<Slot>; BANDS],
-    band: usize,
-    end: Option<Slot>,
-    behind: Option<Slot>,
-)
-    requires inside { band < 10 }
-    requires live { IfSome behind (λ s. IsSome (value_at pool.now s)) }
-    ensures { ends.new ≡ cond (has_band (value_at pool.now) band behind) ends.old (set ends.old band end) }
+/// Sets the end of a band where it is a new one.
+pub(crate) fn set_end(ends: &mut [Link; BANDS], band: usize, is_new: bool, end: Link)
+    requires { band < 10 }
+    ensures { ends.new ≡ cond is_new (set ends.old band end) ends.old }
 {
-    if !has_band(pool, behind, band) {
+    if is_new {
         ends[band] = end;
     }
 }
 
-/// The slot before the place of an entry that was taken, where it becomes the end of the entry's band.
-pub(crate) fn end_before(pool: &Pool<Node>, band: usize, before: Option<Slot>) -> Option<Slot>
-    requires { IfSome before (λ s. IsSome (value_at pool.now s)) }
-    ensures { result ≡ cond (has_band (value_at pool.now) band before) before None }
+/// The link to the slot, where an entry of the band stands there.
+fn link_in(pool: &Pool<Node>, key_first: bool, band: usize, slot: Option<Slot>, to: Link) -> Link
+    requires { IfSome slot (λ s. IsSome (value_at pool.now s)) }
+    ensures { result ≡ cond (has_band (value_at pool.now) key_first band slot) to (link None) }
 {
-    if has_band(pool, before, band) {
-        return before;
+    if has_band(pool, key_first, slot, band) {
+        return to;
     }
-    None
+    NOWHERE
+}
+
+/// Where an entry that was taken was the end of its band, that is the one before it, if it has the band too.
+pub(crate) fn leave_end(
+    pool: &Pool<Node>,
+    ends: &mut [Link; BANDS],
+    key_first: bool,
+    band: usize,
+    own: Link,
+    before: Option<Slot>,
+    to_before: Link,
+)
+    requires inside { band < 10 }
+    requires live { IfSome before (λ s. IsSome (value_at pool.now s)) }
+    ensures { ends.new ≡ ends_without (value_at pool.now) key_first ends.old band own before to_before }
+{
+    if ends[band].is(own) {
+        ends[band] = link_in(pool, key_first, band, before, to_before);
+    }
 }

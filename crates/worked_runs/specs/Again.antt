@@ -1,9 +1,9 @@
 -- Ledgers, boots and acknowledgements that come again.
 use Rattle.std.specs.Prelude.{true, false, [], ◌∷◌, ◌++◌}
-use Rattle.written_net.specs.Net.{Ack, Delta, Full}
+use Rattle.spec_net.specs.Net.{Ack, Delta, Full}
 use Rattle.fuxi_terms.specs.declared.answers.What.TheVariants.{Ack as Acked, NotMine, Old, Taken}
-use Rattle.written_world.specs.Outputs.{State, Fence, Job, MasterIs, Reported, Grant, AgentAt, Row, AppAt, Hold, Packets}
-use Rattle.written_world.specs.Events.{StartMaster, StartAgent, StartApp, Submit, Want, GiveBack, TurnMaster, TurnAgent, TurnApp, ResyncMaster, ResyncAgent, ResyncApp, Deliver, DeliverRange, ShowState}
+use Rattle.spec_world.specs.Outputs.{State, Fence, Job, MasterIs, Reported, Grant, AgentAt, Row, AppAt, Hold, Packets}
+use Rattle.spec_world.specs.Events.{StartMaster, StartAgent, StartApp, Submit, Want, GiveBack, TurnMaster, TurnAgent, TurnApp, ResyncMaster, ResyncAgent, ResyncApp, Deliver, DeliverRange, ShowState}
 use Rattle.worked_runs.specs.RunWords.{machine, group, cluster, unit, job, master, agent, app, sent, heard, heard_new, Run}
 use Rattle.worked_runs.specs.FirstPackets.{one_machine_joins, one_machine_granted}
 

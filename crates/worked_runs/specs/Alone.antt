@@ -6,15 +6,15 @@ use Rattle.fuxi_terms.specs.Keys.{RowKey}
 use Rattle.fuxi_terms.specs.Cluster.{ClusterRecord}
 use Rattle.fuxi_terms.specs.TallyKeys.{reported_key, count_key, want_key}
 use Rattle.fuxi_terms.specs.Tables.{spot}
-use Rattle.written_net.specs.Net.{Id, Kind, Ack, Delta, Full}
-use Rattle.written_net.specs.Ledgers.{Body, Empty, Rows, RowChanges, Report, Tally, row_ledger}
-use Rattle.written_net.specs.Channels.{master_id, agent_id, app_id, party}
-use Rattle.written_net.specs.Sides.{Parcel}
-use Rattle.written_roles.specs.Refusals.{Refusal, NotUsable}
-use Rattle.written_roles.specs.HardState.{HardState}
-use Rattle.written_roles.specs.Agents.{AgentHeard, new_agent, table_by, agent_hears_alone, agent_turn}
-use Rattle.written_roles.specs.Apps.{AppRole, AppHeard, GivesBack, new_app, names, held_by, app_hears_alone, commands_alone, app_turn}
-use Rattle.written_roles.specs.MasterRoles.{MasterRole, MasterTold, Comes, HeardAs, MasterStepped, master_steps_alone, master_started, master_turn}
+use Rattle.spec_net.specs.Net.{Id, Kind, Ack, Delta, Full}
+use Rattle.spec_net.specs.Ledgers.{Body, Empty, Rows, RowChanges, Report, Tally, row_ledger}
+use Rattle.spec_net.specs.Channels.{master_id, agent_id, app_id, party}
+use Rattle.spec_net.specs.Sides.{Parcel}
+use Rattle.spec_roles.specs.Refusals.{Refusal, NotUsable}
+use Rattle.spec_roles.specs.HardState.{HardState}
+use Rattle.spec_roles.specs.Agents.{AgentHeard, new_agent, table_by, agent_hears_alone, agent_turn}
+use Rattle.spec_roles.specs.Apps.{AppRole, AppHeard, GivesBack, new_app, names, held_by, app_hears_alone, commands_alone, app_turn}
+use Rattle.spec_roles.specs.MasterRoles.{MasterRole, MasterTold, Comes, HeardAs, MasterStepped, master_steps_alone, master_started, master_turn}
 use Rattle.worked_runs.specs.RunWords.{cluster, machine, group, unit, job}
 
 -- one resource in eight places

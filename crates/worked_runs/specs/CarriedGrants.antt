@@ -1,10 +1,10 @@
 -- What is carried from epoch to epoch, and what is given back.
 use Rattle.std.specs.Prelude.{true, false, [], ◌∷◌, ◌++◌}
-use Rattle.written_net.specs.Net.{Ack, Delta, Full}
+use Rattle.spec_net.specs.Net.{Ack, Delta, Full}
 use Rattle.fuxi_terms.specs.declared.answers.What.TheVariants.{Ack as Acked, Old, Taken}
-use Rattle.written_roles.specs.Refusals.{NotUsable}
-use Rattle.written_world.specs.Outputs.{Lost, Refused, State, Fence, Job, MasterIs, Reported, Grant, Wait, AgentAt, Row, AppAt, Hold, Carry, Packets}
-use Rattle.written_world.specs.Events.{StartMaster, StopMaster, StartAgent, StartApp, Submit, Begin, Want, GiveBack, TurnMaster, TurnAgent, TurnApp, Deliver, DeliverRange, ShowState}
+use Rattle.spec_roles.specs.Refusals.{NotUsable}
+use Rattle.spec_world.specs.Outputs.{Lost, Refused, State, Fence, Job, MasterIs, Reported, Grant, Wait, AgentAt, Row, AppAt, Hold, Carry, Packets}
+use Rattle.spec_world.specs.Events.{StartMaster, StopMaster, StartAgent, StartApp, Submit, Begin, Want, GiveBack, TurnMaster, TurnAgent, TurnApp, Deliver, DeliverRange, ShowState}
 use Rattle.worked_runs.specs.RunWords.{machine, group, cluster, unit, job, master, agent, app, sent, heard, heard_new, Run}
 use Rattle.worked_runs.specs.Failover.{failover_with_a_missing_report_run}
 use Rattle.worked_runs.specs.FirstPackets.{one_machine_granted}

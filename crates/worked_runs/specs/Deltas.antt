@@ -1,10 +1,10 @@
 -- Deltas, whole ledgers and deliveries in every order.
 use Rattle.std.specs.Prelude.{true, false, [], ◌∷◌, ◌++◌}
-use Rattle.written_net.specs.Net.{Ack, Delta, Full}
+use Rattle.spec_net.specs.Net.{Ack, Delta, Full}
 use Rattle.fuxi_terms.specs.declared.answers.What.TheVariants.{Ack as Acked, Old, Gap, Taken}
-use Rattle.written_roles.specs.Refusals.{NoPacket}
-use Rattle.written_world.specs.Outputs.{Lost, Refused, State, Fence, Job, MasterIs, Reported, Grant, Wait, AgentAt, Row, AppAt, Hold, Packets}
-use Rattle.written_world.specs.Events.{StopMaster, Want, TurnApp, Deliver}
+use Rattle.spec_roles.specs.Refusals.{NoPacket}
+use Rattle.spec_world.specs.Outputs.{Lost, Refused, State, Fence, Job, MasterIs, Reported, Grant, Wait, AgentAt, Row, AppAt, Hold, Packets}
+use Rattle.spec_world.specs.Events.{StopMaster, Want, TurnApp, Deliver}
 use Rattle.worked_runs.specs.RunWords.{master, app, sent, heard, repeated, Run}
 use Rattle.worked_runs.specs.FirstGrants.{four_fit_and_one_waits_run, one_machine}
 

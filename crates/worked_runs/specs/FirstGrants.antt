@@ -1,10 +1,10 @@
 -- The first grants: what fits, what does not, and who goes first.
 use Rattle.std.specs.Prelude.{true, false, [], ◌∷◌, ◌++◌}
 use Rattle.fuxi_terms.specs.Cluster.{ClusterRecord}
-use Rattle.written_net.specs.Net.{Ack, Full}
+use Rattle.spec_net.specs.Net.{Ack, Full}
 use Rattle.fuxi_terms.specs.declared.answers.What.TheVariants.{Ack as Acked, Taken}
-use Rattle.written_world.specs.Outputs.{State, Fence, Job, MasterIs, Reported, Grant, Wait, AgentAt, Row, AppAt, Hold, Packets}
-use Rattle.written_world.specs.Events.{StartMaster, StartAgent, StartApp, Submit, Want, Near, TurnMaster, TurnAgent, TurnApp, DeliverRange}
+use Rattle.spec_world.specs.Outputs.{State, Fence, Job, MasterIs, Reported, Grant, Wait, AgentAt, Row, AppAt, Hold, Packets}
+use Rattle.spec_world.specs.Events.{StartMaster, StartAgent, StartApp, Submit, Want, Near, TurnMaster, TurnAgent, TurnApp, DeliverRange}
 use Rattle.worked_runs.specs.RunWords.{machine, group, cluster, unit, bounded_unit, job, master, agent, app, sent, heard, Run}
 use Rattle.worked_runs.specs.FirstPackets.{one_machine_joins, one_machine_granted, four_machines_join}
 

@@ -1,8 +1,8 @@
 -- What is sent and heard first, where a master, agents and applications start and nobody ran before.
 use Rattle.std.specs.Prelude.{List, [], ◌∷◌, ◌++◌}
-use Rattle.written_net.specs.Net.{Ack, Full}
+use Rattle.spec_net.specs.Net.{Ack, Full}
 use Rattle.fuxi_terms.specs.declared.answers.What.TheVariants.{Ack as Acked, Taken}
-use Rattle.written_world.specs.Outputs.{Line}
+use Rattle.spec_world.specs.Outputs.{Line}
 use Rattle.worked_runs.specs.RunWords.{master, agent, app, sent, heard, heard_new}
 
 -- the agent of the one machine and the application of the one job hear their master, and it hears their report and their demand

@@ -1,10 +1,10 @@
 -- Jobs that end, bans, and what is refused at starts and stops.
 use Rattle.std.specs.Prelude.{true, false, [], ◌∷◌, ◌++◌}
-use Rattle.written_net.specs.Net.{Ack, Delta, Full}
+use Rattle.spec_net.specs.Net.{Ack, Delta, Full}
 use Rattle.fuxi_terms.specs.declared.answers.What.TheVariants.{Ack as Acked, Old, Taken}
-use Rattle.written_roles.specs.Refusals.{NotRunning, NotRising, Fenced, NoMachine, NoGroup, NoJob, Known, Ended, AlreadyBanned, NotBanned, AlreadyServing, NotServing, NothingToPreempt, Dimensions, PriorityRange, QuantityRange, ZeroSize}
-use Rattle.written_world.specs.Outputs.{Refused, State, Fence, Job, Banned, MasterIs, Reported, Grant, Wait, AgentAt, Row, AppAt, Hold, Carry, Packets}
-use Rattle.written_world.specs.Events.{StartMaster, StopMaster, StartAgent, StartApp, Submit, Finish, Ban, Unban, Begin, Preempt, Want, TurnMaster, TurnAgent, TurnApp, ResyncApp, DeliverRange, ShowState}
+use Rattle.spec_roles.specs.Refusals.{NotRunning, NotRising, Fenced, NoMachine, NoGroup, NoJob, Known, Ended, AlreadyBanned, NotBanned, AlreadyServing, NotServing, NothingToPreempt, Dimensions, PriorityRange, QuantityRange, ZeroSize}
+use Rattle.spec_world.specs.Outputs.{Refused, State, Fence, Job, Banned, MasterIs, Reported, Grant, Wait, AgentAt, Row, AppAt, Hold, Carry, Packets}
+use Rattle.spec_world.specs.Events.{StartMaster, StopMaster, StartAgent, StartApp, Submit, Finish, Ban, Unban, Begin, Preempt, Want, TurnMaster, TurnAgent, TurnApp, ResyncApp, DeliverRange, ShowState}
 use Rattle.worked_runs.specs.RunWords.{machine, group, cluster, unit, job, master, agent, app, sent, heard, heard_new, Run}
 use Rattle.worked_runs.specs.FirstPackets.{two_machines_granted, two_jobs_join}
 

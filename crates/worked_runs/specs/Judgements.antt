@@ -1,9 +1,9 @@
 -- Machines that are banned since jobs mark them.
 use Rattle.std.specs.Prelude.{false, true, [], ◌∷◌, ◌++◌}
-use Rattle.written_net.specs.Net.{Ack, Full}
+use Rattle.spec_net.specs.Net.{Ack, Full}
 use Rattle.fuxi_terms.specs.declared.answers.What.TheVariants.{Ack as Acked, Taken}
-use Rattle.written_world.specs.Outputs.{Judged, State, Fence, Job, Banned, MasterIs, Reported, Grant, Wait, AgentAt, AppAt, Packets}
-use Rattle.written_world.specs.Events.{StartMaster, StartAgent, StartApp, Submit, Judge, Want, Near, Avoid, TurnMaster, TurnAgent, TurnApp, Deliver, DeliverRange}
+use Rattle.spec_world.specs.Outputs.{Judged, State, Fence, Job, Banned, MasterIs, Reported, Grant, Wait, AgentAt, AppAt, Packets}
+use Rattle.spec_world.specs.Events.{StartMaster, StartAgent, StartApp, Submit, Judge, Want, Near, Avoid, TurnMaster, TurnAgent, TurnApp, Deliver, DeliverRange}
 use Rattle.worked_runs.specs.RunWords.{machine, group, cluster, unit, job, master, agent, app, sent, heard, heard_new, Run}
 use Rattle.worked_runs.specs.FirstPackets.{four_machines_join}
 use Rattle.worked_runs.specs.FirstGrants.{four_machines}

@@ -1,9 +1,9 @@
 -- Limits, racks and machines that are avoided.
 use Rattle.std.specs.Prelude.{true, false, [], ◌∷◌, ◌++◌}
-use Rattle.written_net.specs.Net.{Ack, Delta, Full}
+use Rattle.spec_net.specs.Net.{Ack, Delta, Full}
 use Rattle.fuxi_terms.specs.declared.answers.What.TheVariants.{Ack as Acked, Old, Taken}
-use Rattle.written_world.specs.Outputs.{State, Fence, Job, MasterIs, Reported, Grant, Wait, AgentAt, Row, AppAt, Hold, Packets}
-use Rattle.written_world.specs.Events.{StartMaster, StartAgent, StartApp, Submit, Want, Near, Rack, Avoid, Begin, TurnMaster, TurnAgent, TurnApp, Deliver, DeliverRange, ShowState}
+use Rattle.spec_world.specs.Outputs.{State, Fence, Job, MasterIs, Reported, Grant, Wait, AgentAt, Row, AppAt, Hold, Packets}
+use Rattle.spec_world.specs.Events.{StartMaster, StartAgent, StartApp, Submit, Want, Near, Rack, Avoid, Begin, TurnMaster, TurnAgent, TurnApp, Deliver, DeliverRange, ShowState}
 use Rattle.worked_runs.specs.RunWords.{machine, group, cluster, unit, job, master, agent, app, sent, heard, heard_new, Run}
 use Rattle.worked_runs.specs.FirstPackets.{two_machines_join, two_jobs_join}
 

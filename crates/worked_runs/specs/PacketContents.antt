@@ -1,11 +1,11 @@
 -- What packets hold.
 use Rattle.std.specs.Prelude.{ℕ, pos, true, false, [], ◌∷◌, ◌++◌}
-use Rattle.written_net.specs.Net.{Party, Kind, Ack, Delta, Full}
-use Rattle.written_net.specs.Ledgers.{Body, Empty, Rows, Report, Tally, TallyChange}
+use Rattle.spec_net.specs.Net.{Party, Kind, Ack, Delta, Full}
+use Rattle.spec_net.specs.Ledgers.{Body, Empty, Rows, Report, Tally, TallyChange}
 use Rattle.fuxi_terms.specs.TallyKeys.{want_key, reported_key, count_key}
-use Rattle.written_roles.specs.Refusals.{NoPacket}
-use Rattle.written_world.specs.Outputs.{Line, Frame, Refused, State, Fence, Job, MasterIs, Reported, Grant, Wait, AgentAt, Row, AppAt, Hold, Packets}
-use Rattle.written_world.specs.Events.{Want, TurnApp, Dump}
+use Rattle.spec_roles.specs.Refusals.{NoPacket}
+use Rattle.spec_world.specs.Outputs.{Line, Frame, Refused, State, Fence, Job, MasterIs, Reported, Grant, Wait, AgentAt, Row, AppAt, Hold, Packets}
+use Rattle.spec_world.specs.Events.{Want, TurnApp, Dump}
 use Rattle.worked_runs.specs.RunWords.{master, agent, app, sent, Run}
 use Rattle.worked_runs.specs.FirstGrants.{one_machine, four_fit_and_one_waits_run}
 

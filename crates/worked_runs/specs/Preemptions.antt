@@ -1,11 +1,11 @@
 -- Grants that are taken for others.
 use Rattle.std.specs.Prelude.{true, false, [], ◌∷◌, ◌++◌}
 use Rattle.fuxi_terms.specs.Cluster.{ClusterRecord}
-use Rattle.written_net.specs.Net.{Ack, Delta, Full}
+use Rattle.spec_net.specs.Net.{Ack, Delta, Full}
 use Rattle.fuxi_terms.specs.declared.answers.What.TheVariants.{Ack as Acked, Taken}
-use Rattle.written_roles.specs.Refusals.{NothingToPreempt}
-use Rattle.written_world.specs.Outputs.{Refused, State, Fence, Job, MasterIs, Reported, Grant, Wait, AgentAt, Row, AppAt, Packets}
-use Rattle.written_world.specs.Events.{StartMaster, StartAgent, StartApp, Submit, Preempt, Want, GiveBack, TurnMaster, TurnAgent, TurnApp, Deliver, DeliverRange}
+use Rattle.spec_roles.specs.Refusals.{NothingToPreempt}
+use Rattle.spec_world.specs.Outputs.{Refused, State, Fence, Job, MasterIs, Reported, Grant, Wait, AgentAt, Row, AppAt, Packets}
+use Rattle.spec_world.specs.Events.{StartMaster, StartAgent, StartApp, Submit, Preempt, Want, GiveBack, TurnMaster, TurnAgent, TurnApp, Deliver, DeliverRange}
 use Rattle.worked_runs.specs.RunWords.{machine, group, cluster, unit, bounded_unit, job, master, agent, app, sent, heard, heard_new, Run}
 use Rattle.worked_runs.specs.FirstPackets.{one_machine_granted, two_machines_two_jobs_join}
 use Rattle.worked_runs.specs.FirstGrants.{one_machine}

@@ -1,8 +1,8 @@
 -- Events that are refused.
 use Rattle.std.specs.Prelude.{true, false, [], ◌∷◌, ◌++◌}
-use Rattle.written_roles.specs.Refusals.{NotRunning, NotRising, Fenced, NoMachine, NoRack, NoGroup, NoJob, NoUnit, Known, NothingToPreempt, WantRange, NotUsable, Dimensions}
-use Rattle.written_world.specs.Outputs.{Refused, State, Fence, Job, MasterIs, Reported, Grant, Wait, AgentAt, Row, AppAt, Hold, Packets}
-use Rattle.written_world.specs.Events.{StartMaster, Submit, Finish, Preempt, Want, Near, Rack, GiveBack}
+use Rattle.spec_roles.specs.Refusals.{NotRunning, NotRising, Fenced, NoMachine, NoRack, NoGroup, NoJob, NoUnit, Known, NothingToPreempt, WantRange, NotUsable, Dimensions}
+use Rattle.spec_world.specs.Outputs.{Refused, State, Fence, Job, MasterIs, Reported, Grant, Wait, AgentAt, Row, AppAt, Hold, Packets}
+use Rattle.spec_world.specs.Events.{StartMaster, Submit, Finish, Preempt, Want, Near, Rack, GiveBack}
 use Rattle.worked_runs.specs.RunWords.{unit, job, Run}
 use Rattle.worked_runs.specs.FirstGrants.{four_fit_and_one_waits_run, one_machine}
 use Rattle.worked_runs.specs.Failover.{failover_after_a_give_back_run}

@@ -2,12 +2,12 @@
 use Rattle.std.specs.Prelude.{◌≡◌, ℕ, zero, suc, true, false, List, [], ◌++◌}
 use Rattle.fuxi_terms.specs.Limits.{greatest_count}
 use Rattle.fuxi_terms.specs.Cluster.{MachineRecord, GroupRecord, ClusterRecord, UnitRecord, JobRecord}
-use Rattle.written_net.specs.Net.{Party, Kind}
+use Rattle.spec_net.specs.Net.{Party, Kind}
 use Rattle.fuxi_terms.specs.declared.answers.What.{What}
-use Rattle.written_net.specs.Channels.{master_id, agent_id, app_id, party}
-use Rattle.written_world.specs.Outputs.{Line, Sent, Came}
-use Rattle.written_world.specs.Events.{Event}
-use Rattle.written_world.specs.Runs.{text}
+use Rattle.spec_net.specs.Channels.{master_id, agent_id, app_id, party}
+use Rattle.spec_world.specs.Outputs.{Line, Sent, Came}
+use Rattle.spec_world.specs.Events.{Event}
+use Rattle.spec_world.specs.Runs.{text}
 
 abbrev pub machine : ℕ → List ℕ → MachineRecord
 machine rack has = record { rack = rack; has = has }

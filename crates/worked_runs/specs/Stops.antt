@@ -1,8 +1,8 @@
 -- Masters that stop within a writing of the hard state.
 use Rattle.std.specs.Prelude.{true, false, [], ◌∷◌, ◌++◌}
-use Rattle.written_roles.specs.Refusals.{Fenced, Known, NoJob, NotRising, NotRunning}
-use Rattle.written_world.specs.Outputs.{AgentAt, AppAt, Fence, Halted, Hold, Job, MasterIs, Packets, Refused, Row, State}
-use Rattle.written_world.specs.Events.{Ban, Finish, Halt, StartMaster, Submit, Unban}
+use Rattle.spec_roles.specs.Refusals.{Fenced, Known, NoJob, NotRising, NotRunning}
+use Rattle.spec_world.specs.Outputs.{AgentAt, AppAt, Fence, Halted, Hold, Job, MasterIs, Packets, Refused, Row, State}
+use Rattle.spec_world.specs.Events.{Ban, Finish, Halt, StartMaster, Submit, Unban}
 use Rattle.worked_runs.specs.FirstGrants.{four_fit_and_one_waits_run, one_machine}
 use Rattle.worked_runs.specs.RunWords.{job, unit, Run}
 

@@ -1,10 +1,10 @@
 -- Whose grants are taken first.
 use Rattle.std.specs.Prelude.{true, false, [], ◌∷◌}
-use Rattle.written_net.specs.Net.{Ack, Full}
+use Rattle.spec_net.specs.Net.{Ack, Full}
 use Rattle.fuxi_terms.specs.declared.answers.What.TheVariants.{Ack as Acked, Taken}
-use Rattle.written_roles.specs.Refusals.{NothingToPreempt}
-use Rattle.written_world.specs.Outputs.{Refused, State, Fence, Job, MasterIs, Reported, Grant, Wait, AgentAt, Row, AppAt, Hold, Packets}
-use Rattle.written_world.specs.Events.{StartMaster, StartAgent, StartApp, Submit, Preempt, Want, TurnMaster, TurnAgent, TurnApp, DeliverRange}
+use Rattle.spec_roles.specs.Refusals.{NothingToPreempt}
+use Rattle.spec_world.specs.Outputs.{Refused, State, Fence, Job, MasterIs, Reported, Grant, Wait, AgentAt, Row, AppAt, Hold, Packets}
+use Rattle.spec_world.specs.Events.{StartMaster, StartAgent, StartApp, Submit, Preempt, Want, TurnMaster, TurnAgent, TurnApp, DeliverRange}
 use Rattle.worked_runs.specs.RunWords.{machine, group, cluster, unit, job, master, agent, app, sent, heard, heard_new, Run}
 
 -- of two jobs with one priority the one with the greater number loses its grants first, and of one job the greater unit

@@ -3,7 +3,7 @@ use Rattle.std.specs.Option.{option_map}
 use Rattle.fuxi_terms.specs.Cluster.{JobRecord}
 use Rattle.fuxi_terms.specs.Jobs.{KnownJob, job_of, job_numbers}
 use Rattle.fuxi_terms.specs.Numbers.{with_number}
-use Rattle.written_roles.specs.HardState.{with_ended}
+use Rattle.spec_roles.specs.HardState.{with_ended}
 use Rattle.allotment.specs.PlacingReads.{record_of}
 use Rattle.allotment.proofs.law.ends_alike.Goals as goal
 

@@ -8,8 +8,8 @@ use Rattle.fuxi_terms.specs.Lists.{below}
 use Rattle.fuxi_terms.proofs.Alls.{all_append}
 use Rattle.fuxi_terms.proofs.Booleans.{both_true, number_is}
 use Rattle.fuxi_terms.specs.Tables.{Table}
-use Rattle.written_roles.specs.Masters.{asked, out_of}
-use Rattle.written_roles.specs.Placing.{has_pair, waiting_in, waiting_pairs}
+use Rattle.spec_roles.specs.Masters.{asked, out_of}
+use Rattle.spec_roles.specs.Placing.{has_pair, waiting_in, waiting_pairs}
 use Rattle.allotment.proofs.AddsLemmas.{filter_twice}
 use Rattle.allotment.proofs.law.lines_alike.Goals as goal
 

@@ -2,8 +2,8 @@ use Rattle.std.proofs.Common.{◌≡◌, ◌<◌, true, sym, ◌∙◌, ap, subs
 use Rattle.fuxi_terms.specs.Cluster.{ClusterRecord}
 use Rattle.fuxi_terms.specs.Limits.{greatest_count}
 use Rattle.fuxi_terms.specs.Tables.{held_on, with_grant}
-use Rattle.written_roles.specs.Masters.{Master, level_of}
-use Rattle.written_roles.specs.Placing.{placeable_in}
+use Rattle.spec_roles.specs.Masters.{Master, level_of}
+use Rattle.spec_roles.specs.Placing.{placeable_in}
 use Rattle.grant_table.specs.GrantTables.{TableRecord, IsSound}
 use Rattle.place_pass.specs.Best.{spot_of}
 use Rattle.place_pass.specs.Placers.{asks_seen, board_with}

@@ -1,4 +1,4 @@
-use Rattle.written_roles.specs.Masters.{out_of}
+use Rattle.spec_roles.specs.Masters.{out_of}
 use Rattle.place_pass.specs.Best.{spot_of}
 use Rattle.place_pass.specs.Placers.{asks_seen}
 use Rattle.allotment.specs.SettlingRuns.{Repeats}

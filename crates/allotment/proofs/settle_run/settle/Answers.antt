@@ -2,7 +2,7 @@ use Rattle.std.proofs.Common.{◌≡◌, None, Some, [], ◌∷◌, ◌++◌, Li
 use Rattle.std.proofs.lemmas.List.{map-append}
 use Rattle.fuxi_terms.specs.Counts.{set_count}
 use Rattle.fuxi_terms.specs.Keys.{Spot, spot_cmp}
-use Rattle.written_roles.specs.Placing.{first_in, settled}
+use Rattle.spec_roles.specs.Placing.{first_in, settled}
 use Rattle.grant_table.specs.GrantTables.{TableRecord}
 use Rattle.grant_table.specs.declared.asking.Pick.{Pick}
 use Rattle.place_pass.specs.Best.{spot_of}

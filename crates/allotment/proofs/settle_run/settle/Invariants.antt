@@ -1,6 +1,6 @@
 use Rattle.std.proofs.Common.{◌≡◌, true, map}
 use Rattle.fuxi_terms.specs.Cluster.{ClusterRecord}
-use Rattle.written_roles.specs.Masters.{Master}
+use Rattle.spec_roles.specs.Masters.{Master}
 use Rattle.grant_table.specs.GrantTables.{IsSound}
 use Rattle.place_pass.specs.Best.{spot_of}
 use Rattle.place_pass.specs.Placers.{IsLevelWith, IsUpToDate, told_of}

@@ -1,7 +1,7 @@
 use Rattle.std.proofs.Common.{◌≡◌, false, Ok, [], ap, ◌∙◌, subst, arith}
-use Rattle.written_net.specs.Ledgers.{Ledger}
-use Rattle.written_net.specs.Sides.{shown, appended}
-use Rattle.core_side.specs.Bodies.{tally_of}
+use Rattle.spec_net.specs.Ledgers.{Ledger}
+use Rattle.spec_net.specs.Sides.{shown, appended}
+use Rattle.peer_channel.specs.Bodies.{tally_of}
 use Rattle.app_master.specs.AppCores.{patched_demand, IsUp}
 use Rattle.app_master.proofs.DemandChanges.{joined_is}
 use Rattle.app_master.proofs.asking.join.Goals as goal

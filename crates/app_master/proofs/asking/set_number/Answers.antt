@@ -5,10 +5,10 @@ use Rattle.fuxi_terms.specs.Tallies.{TallyRecord}
 use Rattle.fuxi_terms.specs.TallyKeys.{greatest_demand}
 use Rattle.fuxi_terms.proofs.CountsLemmas.{count_le}
 use Rattle.fuxi_terms.proofs.KeyOrders.{key_total, same_key}
-use Rattle.written_net.specs.Ledgers.{tally_ledger, at_key}
-use Rattle.written_net.specs.Sides.{shown, appended}
-use Rattle.written_roles.specs.Apps.{changed_demand}
-use Rattle.core_side.specs.Bodies.{tally_of}
+use Rattle.spec_net.specs.Ledgers.{tally_ledger, at_key}
+use Rattle.spec_net.specs.Sides.{shown, appended}
+use Rattle.spec_roles.specs.Apps.{changed_demand}
+use Rattle.peer_channel.specs.Bodies.{tally_of}
 use Rattle.app_master.specs.AppCores.{patched_demand, IsUp}
 use Rattle.app_master.specs.Asking.{IsMove}
 use Rattle.app_master.proofs.DemandChanges.{set_itself, set_here, move_made, changed_is}

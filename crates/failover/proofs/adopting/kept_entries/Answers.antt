@@ -1,5 +1,5 @@
 use Rattle.std.proofs.Common.{◌≡◌, true, false, ◌∙◌, rules}
-use Rattle.written_roles.specs.MasterSteps.{is_kept}
+use Rattle.spec_roles.specs.MasterSteps.{is_kept}
 use Rattle.party_ledgers.specs.Entries.{entry_of}
 use Rattle.failover.proofs.OneEntryMore.{row_with, more_kept, no_more_kept}
 use Rattle.failover.proofs.adopting.kept_entries.Goals as goal

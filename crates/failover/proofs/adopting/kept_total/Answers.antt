@@ -3,7 +3,7 @@ use Rattle.std.specs.List.{All}
 use Rattle.fuxi_terms.specs.declared.vectors.Sum.{Sum}
 use Rattle.fuxi_terms.specs.Vectors.{plus}
 use Rattle.fuxi_terms.specs.Rows.{IsRow, row_total}
-use Rattle.written_roles.specs.MasterSteps.{is_kept}
+use Rattle.spec_roles.specs.MasterSteps.{is_kept}
 use Rattle.party_ledgers.specs.Entries.{entry_of}
 use Rattle.failover.specs.KeptReports.{kept_entries}
 use Rattle.failover.proofs.OneEntryMore.{row_with, more_kept, no_more_kept}

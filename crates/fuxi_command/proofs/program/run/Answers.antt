@@ -9,5 +9,5 @@ returns-in-Ok-clause-text g c = rw c.in-Ok.is (rw c.deref.ensures.value at c.fux
 pub returns-in-Ok-clause-lease_text : goal.returns-in-Ok-clause-lease_text
 returns-in-Ok-clause-lease_text g c = rw c.in-Ok.is (rw c.deref.ensures.value at c.fuxi.ensures.lease_text)
 
-pub returns-in-Ok-clause-work_text : goal.returns-in-Ok-clause-work_text
-returns-in-Ok-clause-work_text g c = rw c.in-Ok.is (rw c.deref.ensures.value at c.fuxi.ensures.work_text)
+pub returns-in-Ok-clause-work_plan : goal.returns-in-Ok-clause-work_plan
+returns-in-Ok-clause-work_plan g c = rw c.in-Ok.is (rw c.deref.ensures.value at c.fuxi.ensures.work_plan)

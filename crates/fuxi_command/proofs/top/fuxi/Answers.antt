@@ -143,8 +143,8 @@ returns-clause-full g c epoch addr is kept full = subst (λ s. TellsDisk (Master
 pub returns-clause-lease_text : goal.returns-clause-lease_text
 returns-clause-lease_text g c is done bytes t value known told reads = lease_done value bytes t (g.S.Source.left c.args.input.now) (g.S.Source.left c.run_command-status.new.input) (g.O.Sink.took c.args.out.now) (g.O.Sink.took c.run_command-status.new.out) (g.D.Disk.told c.args.disk.now) (g.D.Disk.told c.run_command-status.new.disk) c.run_command-status.result done known told reads (c.run_command-status.ensures.lease is)
 
-pub returns-clause-work_text : goal.returns-clause-work_text
-returns-clause-work_text g c is done = work_done (g.S.Source.left c.args.input.now) (g.S.Source.left c.run_command-status.new.input) (g.O.Sink.took c.args.out.now) (g.O.Sink.took c.run_command-status.new.out) c.run_command-status.result done (c.run_command-status.ensures.work is)
+pub returns-clause-work_plan : goal.returns-clause-work_plan
+returns-clause-work_plan g c is done = work_done (g.S.Source.left c.args.input.now) (g.S.Source.left c.run_command-status.new.input) (g.O.Sink.took c.args.out.now) (g.O.Sink.took c.run_command-status.new.out) c.run_command-status.result done (c.run_command-status.ensures.work is)
 
 pub returns-clause-judges : goal.returns-clause-judges
 returns-clause-judges g c = each_judges (g.S.Source.left c.args.input.now) c.every_judgement_bans_what_is_judged.ensures c.inputs_are_given.ensures

@@ -1,5 +1,5 @@
 use Rattle.std.proofs.Common.{refl, sym}
-use Rattle.schedule_run.specs.ScheduleRuns.{read_from, Ended}
+use Rattle.schedule_replay.specs.ScheduleRuns.{read_from, Ended}
 use Rattle.fuxi_command.specs.CommandWords.{Lease, Node, Replay, Storm, Work}
 use Rattle.fuxi_command.proofs.OutcomesLemmas.{alone_keeps, diskless, node_diskless, node_untouched, of_command, of_none, storm_ends, work_lines, work_records}
 use Rattle.fuxi_command.proofs.ReplaysLemmas.{begun}

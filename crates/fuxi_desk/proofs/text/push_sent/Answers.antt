@@ -1,7 +1,7 @@
 use Rattle.std.proofs.Common.{List, ℕ, ◌++◌, ◌∷◌, [], ◌∙◌, ap}
 use Rattle.std.specs.Prelude.{codes, decimal}
-use Rattle.core_side.specs.Parcels.{party_of}
-use Rattle.written_net.specs.Net.{Kind}
+use Rattle.peer_channel.specs.Parcels.{party_of}
+use Rattle.spec_net.specs.Net.{Kind}
 use Rattle.schedule_text.specs.PrintedLines.{ended, kind_word, party_word, place_word}
 use Rattle.schedule_text.specs.Printing.{as_kind}
 use Rattle.fuxi_desk.proofs.DeskTextsLemmas.{sent_pushed}

@@ -16,7 +16,7 @@ none c = ap (list_any (λ e. is_back e.0)) (sym c.entries.ensures.entries) ∙ s
 
 pub returns-then-not-gives_back-clause-credits : goal.returns-then-not-gives_back-clause-credits
 returns-then-not-gives_back-clause-credits c =
-    let sound = subst IsSound c.table.ensures c.cluster-sound.ensures.sound in
+    let sound = subst IsSound c.table.ensures c.is_sound.ensures in
     credited_already c.in-Some.change.entries c.args.app.0 c.args.demand.now.entries c.args.given.now.entries c.args.allotment.now (told c) c.entries-entries.ensures.counts.sorted (none c) c.requires.waits sound.counts
 
 pub returns-then-not-gives_back-clause-numbers : goal.returns-then-not-gives_back-clause-numbers

@@ -1,6 +1,6 @@
 use Rattle.std.proofs.Common.{◌∙◌, ap, set, arith}
 use Rattle.std.proofs.lemmas.List.Edits.{map_over_more}
-use Rattle.broadcast.specs.AllShown.{Down}
+use Rattle.ledger_updates.specs.AllShown.{Down}
 use Rattle.fuxi_master.specs.Resyncs.{agent_forgotten}
 use Rattle.fuxi_master.proofs.sending.resync_agents.Goals as goal
 

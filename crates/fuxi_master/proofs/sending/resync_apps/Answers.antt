@@ -1,7 +1,7 @@
 use Rattle.std.proofs.Common.{Option, ◌∙◌, ap, set, arith}
 use Rattle.std.proofs.lemmas.List.Edits.{map_over_more}
 use Rattle.std.specs.Option.{option_map}
-use Rattle.broadcast.specs.AllShown.{App}
+use Rattle.ledger_updates.specs.AllShown.{App}
 use Rattle.fuxi_master.specs.Resyncs.{app_forgotten}
 use Rattle.fuxi_master.proofs.sending.resync_apps.Goals as goal
 

@@ -3,9 +3,9 @@ use Rattle.std.proofs.lemmas.Bool.Decides.{nat_tests}
 use Rattle.fuxi_terms.specs.Cluster.{machine_of}
 use Rattle.fuxi_terms.specs.Padded.{padded}
 use Rattle.fuxi_io.specs.declared.status.Status.TheVariants.{OutOfMemory}
-use Rattle.written_roles.specs.Agents.{new_agent}
-use Rattle.node_rounds.specs.Roles.{OfAgent}
-use Rattle.peer_nodes.specs.AgentParties.{StandsAs}
+use Rattle.spec_roles.specs.Agents.{new_agent}
+use Rattle.node_core.specs.Roles.{OfAgent}
+use Rattle.node_parties.specs.AgentParties.{StandsAs}
 use Rattle.fuxi_node.specs.NodeStarts.{agent_start}
 use Rattle.fuxi_node.proofs.NodeInputsLemmas.{has_machine}
 use Rattle.fuxi_node.proofs.InputEnds.{machine_placed}

@@ -1,5 +1,5 @@
-use Rattle.written_roles.specs.Apps.{new_app}
-use Rattle.node_rounds.specs.Roles.{OfApp}
+use Rattle.spec_roles.specs.Apps.{new_app}
+use Rattle.node_core.specs.Roles.{OfApp}
 use Rattle.fuxi_node.specs.NodeStarts.{app_start}
 use Rattle.fuxi_node.proofs.NodeStartsLemmas.{nothing_placed, nothing_taken}
 use Rattle.fuxi_node.proofs.apps.run_app.Goals as goal

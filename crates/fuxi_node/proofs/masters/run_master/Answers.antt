@@ -1,10 +1,10 @@
 use Rattle.std.proofs.Common.{◌≡◌, Ok, Err, refl, ◌∙◌, ap}
 use Rattle.hard_state.proofs.HardFilesLemmas.{whole_keeps}
 use Rattle.hard_state.specs.declared.fault.HardFault.TheVariants.{DiskFault as NoDisk}
-use Rattle.written_roles.specs.MasterRoles.{master_started}
-use Rattle.master_node.specs.MasterParties.{DiskHas, RestsAt}
-use Rattle.master_node.specs.NodeCommands.{LeavesEither}
-use Rattle.node_rounds.specs.Roles.{OfMaster}
+use Rattle.spec_roles.specs.MasterRoles.{master_started}
+use Rattle.node_parties.specs.MasterParties.{DiskHas, RestsAt}
+use Rattle.node_parties.specs.NodeCommands.{LeavesEither}
+use Rattle.node_core.specs.Roles.{OfMaster}
 use Rattle.fuxi_node.specs.NodeEnds.{FitsNow, FitsOneNow}
 use Rattle.fuxi_node.specs.MasterEnds.{start_status}
 use Rattle.fuxi_node.specs.NodeStarts.{master_start}

@@ -5,9 +5,9 @@ use Rattle.fuxi_io.specs.declared.lines.LineStop.TheVariants.{ReadFault as ReadS
 use Rattle.fuxi_terms.specs.Limits.{most_frames, most_lines}
 use Rattle.input_lines.specs.InputStatuses.{stop_status}
 use Rattle.input_lines.specs.Contents.{content, is_skipped}
-use Rattle.node_door.specs.Doors.{WhereTold}
-use Rattle.node_party.specs.NodeHalts.{FitsEither}
-use Rattle.node_party.specs.NodeLines.{node_line}
+use Rattle.fuxi_io.specs.Doors.{WhereTold}
+use Rattle.node_core.specs.NodeHalts.{FitsEither}
+use Rattle.node_core.specs.NodeLines.{node_line}
 use Rattle.fuxi_node.specs.declared.taking.Stop.TheVariants.{Ends, Disk}
 use Rattle.fuxi_node.specs.NodeEnds.{FitsNow, FitsOneNow, start_of}
 use Rattle.fuxi_node.specs.NodeProgress.{Taken, TakesCounted}

@@ -3,8 +3,8 @@ use Rattle.fuxi_io.specs.Reading.{rest_of}
 use Rattle.fuxi_io.specs.declared.lines.LineStop.TheVariants.{ReadFault}
 use Rattle.fuxi_terms.specs.Limits.{most_frames, most_lines}
 use Rattle.input_lines.specs.Wholes.{IsReady}
-use Rattle.node_door.specs.Doors.{WhereTold}
-use Rattle.node_rounds.specs.Roles.{Role}
+use Rattle.fuxi_io.specs.Doors.{WhereTold}
+use Rattle.node_core.specs.Roles.{Role}
 use Rattle.fuxi_node.specs.NodeEnds.{start_of}
 use Rattle.fuxi_node.specs.NodeProgress.{Along, KeepsTold, Reaches}
 use Rattle.fuxi_node.proofs.run.run_node.Given as goal

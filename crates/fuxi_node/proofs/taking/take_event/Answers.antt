@@ -1,7 +1,7 @@
 use Rattle.std.proofs.Common.{Ok, Err, Some, refl, subst}
-use Rattle.node_party.specs.declared.line.NodeLine.TheVariants.{Event}
-use Rattle.node_party.specs.PartyEvents.{commanded}
-use Rattle.node_party.specs.NodeTexts.{answer_text}
+use Rattle.node_core.specs.declared.line.NodeLine.TheVariants.{Event}
+use Rattle.node_core.specs.PartyEvents.{commanded}
+use Rattle.node_core.specs.NodeTexts.{answer_text}
 use Rattle.fuxi_node.specs.NodeEnds.{FitsNow, FitsOneNow}
 use Rattle.fuxi_node.specs.NodeProgress.{WritesText}
 use Rattle.fuxi_node.proofs.DiskKept.{fits_second, known_more}

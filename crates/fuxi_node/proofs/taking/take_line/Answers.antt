@@ -1,15 +1,15 @@
 use Rattle.std.proofs.Common.{◌≡◌, [], ◌∙◌, Ok, sym, ap, subst, arith}
 use Rattle.fuxi_terms.specs.Limits.{most_frames}
-use Rattle.node_door.specs.Doors.{WhereTold}
-use Rattle.node_party.specs.declared.line.NodeLine.TheVariants.{Round, Serve, Show, Event}
+use Rattle.fuxi_io.specs.Doors.{WhereTold}
+use Rattle.node_core.specs.declared.line.NodeLine.TheVariants.{Round, Serve, Show, Event}
 use Rattle.schedule_text.specs.Halting.{anywhere}
-use Rattle.node_party.specs.PartyEvents.{Commanded}
-use Rattle.node_party.specs.NodeLines.{node_line, line_anywhere, HasLineEvent}
-use Rattle.node_party.specs.NodeTexts.{answer_text}
+use Rattle.node_core.specs.PartyEvents.{Commanded}
+use Rattle.node_core.specs.NodeLines.{node_line, line_anywhere, HasLineEvent}
+use Rattle.node_core.specs.NodeTexts.{answer_text}
 use Rattle.fuxi_node.specs.NodeRuns.{behind, then_is}
 use Rattle.fuxi_node.specs.NodeEnds.{FitsNow, FitsOneNow}
 use Rattle.fuxi_node.specs.NodeProgress.{TakesLine}
-use Rattle.node_door.specs.DoorsLemmas.{same_told}
+use Rattle.fuxi_io.specs.DoorsLemmas.{same_told}
 use Rattle.fuxi_node.specs.NodeProgress.{IsSaid}
 use Rattle.fuxi_node.proofs.NodeEndsLemmas.{bad_said, ok_always}
 use Rattle.fuxi_node.proofs.NodeProgressLemmas.{quiet_line, quietly_same}

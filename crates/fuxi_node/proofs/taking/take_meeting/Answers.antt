@@ -1,13 +1,13 @@
 use Rattle.std.proofs.Common.{◌≡◌, ◌≢◌, Ok, Err, cond, sym, ◌∙◌, subst, arith}
 use Rattle.fuxi_terms.specs.Limits.{most_frames}
-use Rattle.node_door.specs.Doors.{WhereTold}
-use Rattle.node_party.specs.declared.line.NodeLine.TheVariants.{Round, Serve}
-use Rattle.node_party.specs.PartyEvents.{NotHere, accepts}
-use Rattle.node_party.specs.NodeTexts.{answer_text}
+use Rattle.fuxi_io.specs.Doors.{WhereTold}
+use Rattle.node_core.specs.declared.line.NodeLine.TheVariants.{Round, Serve}
+use Rattle.node_core.specs.PartyEvents.{NotHere, accepts}
+use Rattle.node_core.specs.NodeTexts.{answer_text}
 use Rattle.fuxi_node.specs.declared.taking.Stop.TheVariants.{Ends}
 use Rattle.fuxi_node.specs.NodeEnds.{FitsNow, FitsOneNow}
 use Rattle.fuxi_node.specs.NodeProgress.{TakesLine}
-use Rattle.node_door.specs.DoorsLemmas.{same_told}
+use Rattle.fuxi_io.specs.DoorsLemmas.{same_told}
 use Rattle.fuxi_node.proofs.DiskKept.{fits_first, known_same}
 use Rattle.fuxi_node.proofs.NodeEndsLemmas.{not_bad}
 use Rattle.fuxi_node.proofs.NodeProgressLemmas.{other_bool, quiet_line, said_err, other_round}

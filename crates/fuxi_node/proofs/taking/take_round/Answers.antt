@@ -3,14 +3,14 @@ use Rattle.std.specs.Io.KnownBytes.{Appends}
 use Rattle.fuxi_io.specs.Causes.{TakesPart}
 use Rattle.fuxi_io.specs.declared.status.Status.TheVariants.{OutOfMemory, WriteFault}
 use Rattle.fuxi_terms.specs.Limits.{most_frames}
-use Rattle.node_rounds.specs.Rounds.{Breaks, Rounds}
-use Rattle.node_party.specs.declared.line.NodeLine.TheVariants.{Round, Serve}
-use Rattle.node_party.specs.PartyEvents.{accepts}
+use Rattle.node_core.specs.Rounds.{Breaks, Rounds}
+use Rattle.node_core.specs.declared.line.NodeLine.TheVariants.{Round, Serve}
+use Rattle.node_core.specs.PartyEvents.{accepts}
 use Rattle.fuxi_node.specs.declared.taking.Stop.TheVariants.{Ends}
 use Rattle.fuxi_node.specs.NodeRuns.{role_after}
 use Rattle.fuxi_node.specs.NodeEnds.{FitsNow, FitsOneNow}
 use Rattle.fuxi_node.specs.NodeProgress.{TakesLine}
-use Rattle.node_door.specs.DoorsLemmas.{map_told}
+use Rattle.fuxi_io.specs.DoorsLemmas.{map_told}
 use Rattle.fuxi_node.proofs.DiskKept.{fits_first, known_same}
 use Rattle.fuxi_node.proofs.NodeProgressLemmas.{taken_round}
 use Rattle.fuxi_node.proofs.taking.take_round.Goals as goal

@@ -1,6 +1,6 @@
 use Rattle.std.proofs.Common.{◌+◌, Ok, Err, refl, sym, subst}
-use Rattle.node_party.specs.declared.line.NodeLine.TheVariants.{Show}
-use Rattle.node_party.specs.NodeTexts.{state_text}
+use Rattle.node_core.specs.declared.line.NodeLine.TheVariants.{Show}
+use Rattle.node_core.specs.NodeTexts.{state_text}
 use Rattle.fuxi_node.specs.NodeEnds.{FitsNow, FitsOneNow}
 use Rattle.fuxi_node.specs.NodeProgress.{WritesText}
 use Rattle.fuxi_node.proofs.DiskKept.{fits_first, known_same}

@@ -1,6 +1,6 @@
 use Rattle.std.proofs.Common.{◌≡◌, Ok, Err, refl, sym, ap, ◌∙◌, ◌-◌, ◌<◌, arith, length, length-drop, rules}
 use Rattle.fuxi_terms.specs.Limits.{most_records}
-use Rattle.written_roles.specs.HardState.{HardState}
+use Rattle.spec_roles.specs.HardState.{HardState}
 use Rattle.hard_state.proofs.OpensAsTheFile.{empty_piece, walk_starts, ends_closed, ends_damaged, goes_on}
 use Rattle.hard_state.proofs.opening.read.Goals as goal
 

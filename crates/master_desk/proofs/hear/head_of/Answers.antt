@@ -1,5 +1,5 @@
 use Rattle.std.proofs.Common.{◌∙◌, ◌+◌, ap}
-use Rattle.core_side.specs.Parcels.{packet_of}
+use Rattle.peer_channel.specs.Parcels.{packet_of}
 use Rattle.master_desk.proofs.DesksLemmas.{same_length}
 use Rattle.master_desk.proofs.hear.head_of.Goals as goal
 

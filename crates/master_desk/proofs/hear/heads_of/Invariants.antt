@@ -1,5 +1,5 @@
 use Rattle.std.proofs.Common.{◌≡◌, map, take}
-use Rattle.core_side.specs.Parcels.{parcel_is}
+use Rattle.peer_channel.specs.Parcels.{parcel_is}
 use Rattle.master_desk.specs.Desks.{sending_of, sent_as}
 use Rattle.master_desk.proofs.hear.heads_of.Given as goal
 

@@ -1,6 +1,6 @@
 use Rattle.std.proofs.Common.{sym, ◌∙◌, ap, map}
-use Rattle.core_side.specs.Parcels.{id_of, parcel_is}
-use Rattle.written_roles.specs.MasterRoles.{master_hears_alone, report_excess}
+use Rattle.peer_channel.specs.Parcels.{id_of, parcel_is}
+use Rattle.spec_roles.specs.MasterRoles.{master_hears_alone, report_excess}
 use Rattle.master_desk.specs.declared.entry.Words.TheVariants.{Took}
 use Rattle.master_desk.specs.Desks.{sending_of}
 use Rattle.master_desk.proofs.DesksLemmas.{none_sent, some_sent}

@@ -1,8 +1,8 @@
 use Rattle.std.proofs.Common.{map, [], ◌∷◌, ◌∙◌}
-use Rattle.written_world.specs.Outputs.{AgentAt}
-use Rattle.written_join.specs.States.{row_line, agent_lines}
+use Rattle.spec_world.specs.Outputs.{AgentAt}
+use Rattle.spec_refinement.specs.States.{row_line, agent_lines}
 use Rattle.schedule_text.specs.PrintedLines.{line_text}
-use Rattle.written_join.proofs.ShowsLemmas.{shows_same, shows_then}
+use Rattle.spec_refinement.proofs.ShowsLemmas.{shows_same, shows_then}
 use Rattle.party_text.proofs.agent.write_agent.Goals as goal
 
 pub returns-in-Ok-write_rows-clause-ok : goal.returns-in-Ok-write_rows-clause-ok

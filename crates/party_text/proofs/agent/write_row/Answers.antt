@@ -1,8 +1,8 @@
 use Rattle.std.proofs.Common.{[], ◌∷◌, ap}
 use Rattle.party_ledgers.specs.Entries.{entry_of}
-use Rattle.written_join.specs.States.{row_line}
+use Rattle.spec_refinement.specs.States.{row_line}
 use Rattle.schedule_text.specs.PrintedLines.{line_text}
-use Rattle.written_join.proofs.ShowsLemmas.{shows_same, then_ok, one_item}
+use Rattle.spec_refinement.proofs.ShowsLemmas.{shows_same, then_ok, one_item}
 use Rattle.party_text.proofs.agent.write_row.Goals as goal
 
 pub returns-clause-ok : goal.returns-clause-ok

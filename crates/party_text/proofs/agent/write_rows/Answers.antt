@@ -2,9 +2,9 @@ use Rattle.std.proofs.Common.{◌≡◌, ◌<◌, ℕ, length, map, [], ◌∷�
 use Rattle.std.specs.List.{flat_map}
 use Rattle.std.proofs.lemmas.List.Concat.{flat_map_single}
 use Rattle.fuxi_terms.specs.Keys.{RowKey}
-use Rattle.written_join.specs.States.{row_line}
+use Rattle.spec_refinement.specs.States.{row_line}
 use Rattle.schedule_text.specs.PrintedLines.{line_text}
-use Rattle.written_join.proofs.ShowsLemmas.{shows_same, shows_item, shows_all, begins_shown, begins_then}
+use Rattle.spec_refinement.proofs.ShowsLemmas.{shows_same, shows_item, shows_all, begins_shown, begins_then}
 use Rattle.party_text.proofs.agent.write_rows.Goals as goal
 
 pub returns-in-Err-clause-begins : goal.returns-in-Err-clause-begins

@@ -1,6 +1,6 @@
 use Rattle.std.proofs.Common.{take, [], ◌∷◌}
 use Rattle.std.specs.List.{flat_map}
-use Rattle.written_join.specs.States.{row_line}
+use Rattle.spec_refinement.specs.States.{row_line}
 use Rattle.party_text.specs.Texts.{Shows}
 use Rattle.party_text.proofs.agent.write_rows.Given as goal
 

@@ -1,10 +1,10 @@
 use Rattle.std.proofs.Common.{[], ◌∷◌, ◌∙◌}
 use Rattle.std.specs.List.{flat_map}
 use Rattle.fuxi_terms.specs.Lists.{below}
-use Rattle.written_world.specs.Outputs.{AppAt}
-use Rattle.written_join.specs.States.{unit_lines, app_lines}
+use Rattle.spec_world.specs.Outputs.{AppAt}
+use Rattle.spec_refinement.specs.States.{unit_lines, app_lines}
 use Rattle.schedule_text.specs.PrintedLines.{line_text}
-use Rattle.written_join.proofs.ShowsLemmas.{shows_same, shows_then}
+use Rattle.spec_refinement.proofs.ShowsLemmas.{shows_same, shows_then}
 use Rattle.party_text.proofs.app.write_app.Goals as goal
 
 pub returns-in-Ok-write_units-clause-ok : goal.returns-in-Ok-write_units-clause-ok

@@ -1,10 +1,10 @@
 use Rattle.std.proofs.Common.{◌≡◌, ℕ, Bool, true, false, cond, [], ◌∷◌, sym, ◌∙◌, ap}
 use Rattle.fuxi_terms.proofs.Booleans.{not_false, not_true}
-use Rattle.written_roles.specs.Apps.{AppRole, names, held_by}
-use Rattle.written_world.specs.Outputs.{Hold, Carry}
-use Rattle.written_join.specs.States.{hold_line}
+use Rattle.spec_roles.specs.Apps.{AppRole, names, held_by}
+use Rattle.spec_world.specs.Outputs.{Hold, Carry}
+use Rattle.spec_refinement.specs.States.{hold_line}
 use Rattle.schedule_text.specs.PrintedLines.{line_text}
-use Rattle.written_join.proofs.ShowsLemmas.{shows_same}
+use Rattle.spec_refinement.proofs.ShowsLemmas.{shows_same}
 use Rattle.party_text.proofs.app.write_hold.Goals as goal
 
 -- what is held is one line, by whether the master names the machine

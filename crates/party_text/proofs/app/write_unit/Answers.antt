@@ -1,10 +1,10 @@
 use Rattle.std.proofs.Common.{◌≡◌, ◌+◌, ℕ, Bool, true, false, not, nat_eq, map, filter, length, [], ◌∷◌, ◌++◌, sym, ap, arith}
 use Rattle.std.proofs.lemmas.Bool.Decides.{nat_tests}
 use Rattle.fuxi_terms.specs.Lists.{below}
-use Rattle.written_roles.specs.Apps.{AppRole, held_by}
-use Rattle.written_join.specs.States.{hold_line, unit_lines}
+use Rattle.spec_roles.specs.Apps.{AppRole, held_by}
+use Rattle.spec_refinement.specs.States.{hold_line, unit_lines}
 use Rattle.schedule_text.specs.PrintedLines.{line_text}
-use Rattle.written_join.proofs.ShowsLemmas.{shows_same, shows_then, begins_then}
+use Rattle.spec_refinement.proofs.ShowsLemmas.{shows_same, shows_then, begins_then}
 use Rattle.party_text.proofs.HeldWalk.{none_more, next_more}
 use Rattle.party_text.proofs.app.write_unit.Goals as goal
 

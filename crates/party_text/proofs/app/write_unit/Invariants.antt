@@ -1,9 +1,9 @@
 use Rattle.std.proofs.Common.{◌-◌, ◌≤◌, not, nat_eq, map, filter}
 use Rattle.fuxi_terms.specs.Lists.{below}
-use Rattle.written_roles.specs.Apps.{AppRole, held_by}
+use Rattle.spec_roles.specs.Apps.{AppRole, held_by}
 use Rattle.schedule_text.specs.Writing.{Begins}
 use Rattle.app_master.specs.AppCores.{StandsFor}
-use Rattle.written_join.specs.States.{hold_line}
+use Rattle.spec_refinement.specs.States.{hold_line}
 use Rattle.party_text.specs.Texts.{Shows}
 use Rattle.party_text.proofs.app.write_unit.Given as goal
 

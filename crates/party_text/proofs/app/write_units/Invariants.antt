@@ -1,8 +1,8 @@
 use Rattle.std.specs.List.{flat_map}
 use Rattle.fuxi_terms.specs.Lists.{below}
-use Rattle.written_roles.specs.Apps.{AppRole}
+use Rattle.spec_roles.specs.Apps.{AppRole}
 use Rattle.app_master.specs.AppCores.{StandsFor}
-use Rattle.written_join.specs.States.{unit_lines}
+use Rattle.spec_refinement.specs.States.{unit_lines}
 use Rattle.party_text.specs.Texts.{Shows}
 use Rattle.party_text.proofs.Loops.{Printed}
 use Rattle.party_text.proofs.app.write_units.Given as goal

@@ -8,7 +8,7 @@ use Rattle.std.proofs.lemmas.Option.{slice_get-get_or}
 use Rattle.fuxi_terms.specs.declared.Key.{Key}
 use Rattle.fuxi_terms.specs.Keys.{key_cmp}
 use Rattle.fuxi_terms.proofs.Booleans.{false_right, number_is}
-use Rattle.written_roles.specs.Placing.{has_pair}
+use Rattle.spec_roles.specs.Placing.{has_pair}
 use Rattle.place_pass.specs.Placers.{is_named}
 use Rattle.place_pass.specs.PlacerTrees.{StandsAs}
 use Rattle.place_pass.specs.DemandScopes.{StandsAt}

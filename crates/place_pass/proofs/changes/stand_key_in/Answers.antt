@@ -3,7 +3,7 @@ use Rattle.fuxi_terms.specs.Jobs.{unit_count}
 use Rattle.grant_table.specs.GrantTables.{as_known}
 use Rattle.wait_queue.specs.declared.node.Entry.{Entry}
 use Rattle.locality_tree.specs.Trees.{unit_number}
-use Rattle.written_roles.specs.Placing.{has_pair}
+use Rattle.spec_roles.specs.Placing.{has_pair}
 use Rattle.place_pass.specs.PlacerTrees.{WaitsIn}
 use Rattle.place_pass.specs.DemandScopes.{StoodAt}
 use Rattle.place_pass.proofs.StandsAtChanges.{admitted_there}

@@ -1,6 +1,6 @@
 use Rattle.std.proofs.Common.{sym, ◌∙◌}
 use Rattle.place_pass.specs.Bounds.{rank_of}
-use Rattle.place_pass.proofs.SightsLemmas.{kept_better, kept_worse}
+use Rattle.place_pass.proofs.CandidatesLemmas.{kept_better, kept_worse}
 use Rattle.place_pass.proofs.earliest.earlier_of.Goals as goal
 
 pub returns-then-is_earlier_here-clause-first : goal.returns-then-is_earlier_here-clause-first

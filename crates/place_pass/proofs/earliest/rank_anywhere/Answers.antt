@@ -2,18 +2,18 @@ use Rattle.std.proofs.Common.{◌≡◌, ℕ, ◌-◌, true, List, [], ◌∷◌
 use Rattle.fuxi_terms.specs.Cluster.{UnitRecord}
 use Rattle.fuxi_terms.specs.Jobs.{priority_of}
 use Rattle.grant_table.specs.GrantTables.{as_known}
-use Rattle.written_roles.specs.Masters.{level_of}
+use Rattle.spec_roles.specs.Masters.{level_of}
 use Rattle.place_pass.specs.Cells.{Cell, asks_in}
 use Rattle.place_pass.specs.Bounds.{is_bound}
 use Rattle.place_pass.proofs.BoundsLemmas.{bound_worse}
 use Rattle.place_pass.proofs.CellsMatchTable.{unit_is}
-use Rattle.place_pass.proofs.SightsLemmas.{self_bound}
+use Rattle.place_pass.proofs.CandidatesLemmas.{self_bound}
 use Rattle.place_pass.proofs.earliest.rank_anywhere.Goals as goal
 
 pub returns : goal.returns
 returns c m =
-    let w = c.args.scene.now.wishes.now in
-    let t = c.args.scene.now.table.now in
+    let w = c.args.input.now.wishes.now in
+    let t = c.args.input.now.table.now in
     let a = c.args.app.0 in let u = c.args.unit.0 in
     let n = c.saturating_sub-late.result in
     let v = c.least_level-level.result in

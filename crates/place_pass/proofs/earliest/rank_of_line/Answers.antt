@@ -3,13 +3,13 @@ use Rattle.std.proofs.lemmas.Bool.{cases_lt}
 use Rattle.fuxi_terms.specs.Keys.{Pair}
 use Rattle.place_pass.specs.Bounds.{rank_of, rank_at, is_bound}
 use Rattle.place_pass.specs.Scenes.{board_in}
-use Rattle.place_pass.specs.Sights.{turn_in}
-use Rattle.place_pass.proofs.SightsLemmas.{same_place, index_within, place_of}
+use Rattle.place_pass.specs.Candidates.{turn_in}
+use Rattle.place_pass.proofs.CandidatesLemmas.{same_place, index_within, place_of}
 use Rattle.place_pass.proofs.earliest.rank_of_line.Goals as goal
 
 pub loop-place-preserved : goal.loop-place-preserved
 loop-place-preserved c k m p lt e =
-    let s = c.args.scene.now in
+    let s = c.args.input.now in
     let line = s.line.now.pairs in
     let place = c.loop-place.place in
     let rank = c.earlier_of-rank.result in
@@ -23,7 +23,7 @@ loop-place-preserved c k m p lt e =
 pub returns : goal.returns
 returns c = record {
   bounded = λ q m has.
-      let line = c.args.scene.now.line.now.pairs in
+      let line = c.args.input.now.line.now.pairs in
       let p = place_of q line has in
       let w = index_within line p.place q p.at in
       let n = c.len-place-end.ensures.number in

@@ -3,9 +3,9 @@ use Rattle.std.proofs.lemmas.Bool.{cases_lt}
 use Rattle.fuxi_terms.specs.Jobs.{group_of, size_at}
 use Rattle.fuxi_terms.specs.Keys.{Pair}
 use Rattle.grant_table.specs.GrantTables.{as_known}
-use Rattle.written_roles.specs.Placing.{is_allowed_in}
+use Rattle.spec_roles.specs.Placing.{is_allowed_in}
 use Rattle.place_pass.proofs.FirstByTurn.{has_at}
-use Rattle.place_pass.proofs.SightsLemmas.{index_within, place_of, same_place}
+use Rattle.place_pass.proofs.CandidatesLemmas.{index_within, place_of, same_place}
 use Rattle.place_pass.proofs.marks.are_allowed.Goals as goal
 
 pub loop-place-preserved : goal.loop-place-preserved

@@ -3,7 +3,7 @@ use Rattle.std.specs.Prelude.{slice_get}
 use Rattle.fuxi_terms.specs.Jobs.{group_of, size_at}
 use Rattle.fuxi_terms.specs.Keys.{Pair}
 use Rattle.grant_table.specs.GrantTables.{as_known}
-use Rattle.written_roles.specs.Placing.{is_allowed_in}
+use Rattle.spec_roles.specs.Placing.{is_allowed_in}
 use Rattle.place_pass.proofs.marks.are_allowed.Given as goal
 
 abbrev pub invariant-loop-place : goal.invariant-loop-place

@@ -3,7 +3,7 @@ use Rattle.std.proofs.lemmas.Bool.{cases_lt}
 use Rattle.std.proofs.lemmas.Bool.Decides.{nat_tests}
 use Rattle.fuxi_terms.proofs.Booleans.{nat_itself}
 use Rattle.place_pass.specs.Bounds.{MarkRecord, mark_of, mark_at, reset_mark, lowered_mark}
-use Rattle.place_pass.specs.Sights.{IsAsked}
+use Rattle.place_pass.specs.Candidates.{IsAsked}
 use Rattle.place_pass.proofs.marks.tell_demand.Goals as goal
 
 pub returns-then-not-lifts_any-clause-marks : goal.returns-then-not-lifts_any-clause-marks

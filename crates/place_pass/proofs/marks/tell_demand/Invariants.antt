@@ -1,6 +1,6 @@
 use Rattle.std.proofs.Common.{◌≡◌, ℕ, ◌<◌, ◌≤◌, [], length, get_or}
 use Rattle.place_pass.specs.Bounds.{mark_at}
-use Rattle.place_pass.specs.Sights.{IsAsked}
+use Rattle.place_pass.specs.Candidates.{IsAsked}
 use Rattle.place_pass.proofs.marks.tell_demand.Given as goal
 
 abbrev pub invariant-loop-number : goal.invariant-loop-number

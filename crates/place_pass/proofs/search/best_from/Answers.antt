@@ -3,14 +3,14 @@ use Rattle.std.proofs.lemmas.Bool.{cases_lt}
 use Rattle.fuxi_terms.specs.Keys.{Pair}
 use Rattle.place_pass.specs.Bounds.{IsBounded}
 use Rattle.place_pass.specs.Scenes.{board_in}
-use Rattle.place_pass.specs.Sights.{sight_rank, turn_in}
-use Rattle.place_pass.proofs.SightsLemmas.{same_place, index_within, place_of}
+use Rattle.place_pass.specs.Candidates.{sight_rank, turn_in}
+use Rattle.place_pass.proofs.CandidatesLemmas.{same_place, index_within, place_of}
 use Rattle.place_pass.proofs.FirstByTurn.{has_at}
 use Rattle.place_pass.proofs.search.best_from.Goals as goal
 
 pub loop-place-preserved : goal.loop-place-preserved
 loop-place-preserved c =
-    let s = c.args.scene.now in
+    let s = c.args.input.now in
     let line = s.line.now.pairs in
     let f = turn_in s.turn_of.now in
     let place = c.loop-place.place in
@@ -25,7 +25,7 @@ loop-place-preserved c =
 
 pub returns : goal.returns
 returns c =
-    let line = c.args.scene.now.line.now.pairs in
+    let line = c.args.input.now.line.now.pairs in
     record {
       bounded = λ q has. let p = place_of q line has in let w = index_within line p.place q p.at in let n = c.len-place-end.ensures.number in let end = c.loop-place-test.false in
           c.loop-place.invariant.bounded p.place q (omega (arith, w, n, end)) p.at;

@@ -6,14 +6,14 @@ use Rattle.place_pass.proofs.SearchCountsLemmas.{both_looks}
 use Rattle.place_pass.proofs.search.best_from_least.Goals as goal
 
 pub returns-then-is_decided-clause-least : goal.returns-then-is_decided-clause-least
-returns-then-is_decided-clause-least g c m lt = decided c.args.scene.now c.args.marks.now c.args.least c.consider_at.new.best m c.requires.ready c.requires.old (let few = c.len-machines.ensures.few in let number = c.len-machines.ensures.number in let marked = c.requires.marked in omega (arith, lt, few, number, marked)) (c.is_decided.ensures c.if-is_decided.true) (c.requires.behind m lt)
+returns-then-is_decided-clause-least g c m lt = decided c.args.input.now c.args.marks.now c.args.least c.consider_at.new.best m c.requires.ready c.requires.old (let few = c.len-machines.ensures.few in let number = c.len-machines.ensures.number in let marked = c.requires.marked in omega (arith, lt, few, number, marked)) (c.is_decided.ensures c.if-is_decided.true) (c.requires.behind m lt)
 
 pub returns-then-is_decided-clause-found : goal.returns-then-is_decided-clause-found
 returns-then-is_decided-clause-found g c = c.consider_at.ensures.found tt
 
 pub returns-then-is_decided-clause-count : goal.returns-then-is_decided-clause-count
 returns-then-is_decided-clause-count g c =
-    both_looks c.args.scene.now.wishes.now.opened c.args.marks.now c.consider_at.new.marks c.args.scene.now.turns c.args.least.machine.0 (length c.args.scene.now.table.now.cluster.machines)
+    both_looks c.args.input.now.wishes.now.opened c.args.marks.now c.consider_at.new.marks c.args.input.now.turns c.args.least.machine.0 (length c.args.input.now.table.now.cluster.machines)
     c.args.steps.now c.consider_at.new.steps c.consider_at.new.steps c.requires.there c.consider_at.ensures.count (omega arith) c.consider_at.ensures.others
 
 pub returns-then-is_decided-clause-settled : goal.returns-then-is_decided-clause-settled
@@ -24,5 +24,5 @@ returns-clause-found g c = c.best_of_others.ensures.found (c.consider_at.ensures
 
 pub returns-clause-count : goal.returns-clause-count
 returns-clause-count g c =
-    both_looks c.args.scene.now.wishes.now.opened c.args.marks.now c.consider_at.new.marks c.args.scene.now.turns c.args.least.machine.0 (length c.args.scene.now.table.now.cluster.machines)
+    both_looks c.args.input.now.wishes.now.opened c.args.marks.now c.consider_at.new.marks c.args.input.now.turns c.args.least.machine.0 (length c.args.input.now.table.now.cluster.machines)
     c.args.steps.now c.consider_at.new.steps c.best_of_others.new.steps c.requires.there c.consider_at.ensures.count c.best_of_others.ensures.count c.consider_at.ensures.others

@@ -5,7 +5,7 @@ use Rattle.std.proofs.lemmas.Bool.Decides.{nat_tests}
 use Rattle.place_pass.specs.Bounds.{MarkRecord, mark_at, rank_on}
 use Rattle.place_pass.specs.SearchCounts.{is_unsettled_by, count_below}
 use Rattle.place_pass.specs.Scenes.{board_in, IsLeastOn, IsSettledBy}
-use Rattle.place_pass.specs.Sights.{turn_in}
+use Rattle.place_pass.specs.Candidates.{turn_in}
 use Rattle.place_pass.proofs.PassedMachines.{is_other, passed_least, passed_settled, later_some}
 use Rattle.place_pass.proofs.SearchCountsLemmas.{count_more}
 use Rattle.place_pass.proofs.search.best_of_others.Goals as goal
@@ -17,11 +17,11 @@ returns-then-at-len-clause-least g c m lt =
     let number = c.len.ensures.number in
     let end = c.if-at-len.true in
     let marked = c.requires.marked in
-    passed_least c.args.scene.now c.args.start.0 0 c.next_other-at.result c.args.marks.now c.args.best.now c.requires.old (omega (arith, inside, all)) c.next_other-at.ensures.passed c.requires.ready c.requires.seen (λ n less. absurd (omega (arith, less))) m (omega (arith, lt, number, end, marked))
+    passed_least c.args.input.now c.args.start.0 0 c.next_other-at.result c.args.marks.now c.args.best.now c.requires.old (omega (arith, inside, all)) c.next_other-at.ensures.passed c.requires.ready c.requires.seen (λ n less. absurd (omega (arith, less))) m (omega (arith, lt, number, end, marked))
 
 pub loop-at-init : goal.loop-at-init
 loop-at-init g c =
-    let s = c.args.scene.now in
+    let s = c.args.input.now in
     let marks = c.args.marks.now in
     let at = c.next_other-at.result in
     let passed = c.next_other-at.ensures.passed in
@@ -45,7 +45,7 @@ loop-at-init g c =
 pub returns-then-is_later-clause-least : goal.returns-then-is_later-clause-least
 returns-then-is_later-clause-least g c m lt =
     let i = c.loop-at.invariant in
-    let s = c.args.scene.now in
+    let s = c.args.input.now in
     let marks = c.pass_from.new.marks in
     let test = c.loop-at-test.true in
     let number = c.len.ensures.number in
@@ -61,7 +61,7 @@ returns-then-is_later-clause-count g c =
     let inside = i.inside in
     let marked = i.marked in
     let origin = c.requires.marked in
-    let more = count_more (is_other c.args.scene.now c.args.start.0 c.args.marks.now) c.loop-at.at (length c.args.scene.now.table.now.cluster.machines) (omega (arith, inside, marked, origin)) in
+    let more = count_more (is_other c.args.input.now c.args.start.0 c.args.marks.now) c.loop-at.at (length c.args.input.now.table.now.cluster.machines) (omega (arith, inside, marked, origin)) in
     omega (arith, k, more)
 
 pub returns-then-is_later-clause-settled : goal.returns-then-is_later-clause-settled
@@ -75,7 +75,7 @@ returns-then-is_later-clause-settled g c none =
 
 pub loop-at-preserved : goal.loop-at-preserved
 loop-at-preserved g c =
-    let s = c.args.scene.now in
+    let s = c.args.input.now in
     let i = c.loop-at.invariant in
     let n = c.loop-at.at in
     let at = c.next_other-at-in-loop-at.result in

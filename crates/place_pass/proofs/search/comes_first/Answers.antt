@@ -1,4 +1,4 @@
-use Rattle.place_pass.proofs.SightsLemmas.{first_decides}
+use Rattle.place_pass.proofs.CandidatesLemmas.{first_decides}
 use Rattle.place_pass.proofs.search.comes_first.Goals as goal
 
 pub returns : goal.returns

@@ -4,20 +4,20 @@ use Rattle.std.proofs.lemmas.Bool.Decides.{nat_tests}
 use Rattle.place_pass.proofs.SearchCountsLemmas.{not_none}
 use Rattle.place_pass.specs.Bounds.{rank_of, mark_of, zero_rank, IsBounded}
 use Rattle.place_pass.specs.Scenes.{board_in}
-use Rattle.place_pass.specs.Sights.{found_rank, sight_rank, turn_in}
+use Rattle.place_pass.specs.Candidates.{found_rank, sight_rank, turn_in}
 use Rattle.place_pass.proofs.ScenesLemmas.{mark_looked}
-use Rattle.place_pass.proofs.SightsLemmas.{least_none, least_seen}
+use Rattle.place_pass.proofs.CandidatesLemmas.{least_none, least_seen}
 use Rattle.place_pass.proofs.search.consider.Goals as goal
 
 pub returns-in-Some-clause-mark : goal.returns-in-Some-clause-mark
-returns-in-Some-clause-mark g c = mark_looked c.args.scene.now c.args.machine.0 (mark_of c.look.new.mark) c.look.result c.look.ensures.best c.look.ensures.bound c.look.ensures.later
+returns-in-Some-clause-mark g c = mark_looked c.args.input.now c.args.machine.0 (mark_of c.look.new.mark) c.look.result c.look.ensures.best c.look.ensures.bound c.look.ensures.later
 
 pub returns-in-None-clause-mark : goal.returns-in-None-clause-mark
-returns-in-None-clause-mark g c = mark_looked c.args.scene.now c.args.machine.0 (mark_of c.look.new.mark) c.look.result c.look.ensures.best c.look.ensures.bound c.look.ensures.later
+returns-in-None-clause-mark g c = mark_looked c.args.input.now c.args.machine.0 (mark_of c.look.new.mark) c.look.result c.look.ensures.best c.look.ensures.bound c.look.ensures.later
 
 pub returns-in-Some-clause-least : goal.returns-in-Some-clause-least
 returns-in-Some-clause-least g c =
-    let s = c.args.scene.now in
+    let s = c.args.input.now in
     let m = c.args.machine.0 in
     let groups = c.look.new.mark.groups in
     least_seen (board_in s) s.table.now.entries (turn_in s.turn_of.now) s.line.now.pairs m (found_rank c.better.new.best) (rank_of c.in-Some.sight.rank) groups refl c.better.ensures.itself
@@ -25,7 +25,7 @@ returns-in-Some-clause-least g c =
 
 pub returns-in-None-clause-least : goal.returns-in-None-clause-least
 returns-in-None-clause-least g c =
-    let s = c.args.scene.now in
+    let s = c.args.input.now in
     let m = c.args.machine.0 in
     let groups = c.look.new.mark.groups in
     least_none (board_in s) s.table.now.entries (turn_in s.turn_of.now) s.line.now.pairs m (found_rank c.args.best.now) groups
@@ -39,5 +39,5 @@ returns-in-Some-clause-empty g c e = absurd (not_none c.better.new.best c.better
 
 pub returns-in-None-clause-settled : goal.returns-in-None-clause-settled
 returns-in-None-clause-settled g c e opened =
-    let until : nat_lt c.look.new.mark.until c.args.scene.now.turns ≡ false = let s = c.look.ensures.until in grind (arith, nat_tests, s) in
+    let until : nat_lt c.look.new.mark.until c.args.input.now.turns ≡ false = let s = c.look.ensures.until in grind (arith, nat_tests, s) in
     ap (λ t. cond t (Some zero_rank) (option_map rank_of c.look.new.mark.bound)) until ∙ c.look.ensures.bound ∙ ap sight_rank c.in-None.is

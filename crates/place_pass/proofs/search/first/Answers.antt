@@ -1,16 +1,16 @@
 use Rattle.std.proofs.Common.{◌≡◌, ℕ, ◌+◌, ◌<◌, ◌≤◌, Bool, true, false, List, Option, None, Some, get_or, sym, ◌∙◌, ap, subst, length, arith, inl, inr}
 use Rattle.std.specs.Prelude.{IfSome}
 use Rattle.fuxi_terms.specs.Keys.{Pair}
-use Rattle.written_roles.specs.Placing.{has_pair}
+use Rattle.spec_roles.specs.Placing.{has_pair}
 use Rattle.place_pass.specs.Bounds.{MarkRecord, mark_at, key_of, AreBoundedLater}
 use Rattle.place_pass.specs.Placers.{board_over}
 use Rattle.place_pass.specs.SearchCounts.{is_unsettled_by, count_below}
-use Rattle.place_pass.specs.Sights.{AreBehind, AreBounded, found_rank, turn_in, IsFound, IsLeast}
-use Rattle.place_pass.specs.declared.search.Found.{Found}
+use Rattle.place_pass.specs.Candidates.{AreBehind, AreBounded, found_rank, turn_in, IsFound, IsLeast}
+use Rattle.place_pass.specs.declared.search.BestFound.{BestFound}
 use Rattle.place_pass.specs.declared.search.Least.{Least}
 use Rattle.place_pass.proofs.FirstByTurn.{none_first, found_first}
 use Rattle.place_pass.proofs.PassedMachines.{none_unsettled}
-use Rattle.place_pass.proofs.SightsLemmas.{least_settled, settled_key, place_of, index_within}
+use Rattle.place_pass.proofs.CandidatesLemmas.{least_settled, settled_key, place_of, index_within}
 use Rattle.place_pass.proofs.search.first.Goals as goal
 
 -- with no machine of least bound each is settled
@@ -77,13 +77,13 @@ returns-in-Some-best_from_least-clause-first g c =
     let es = c.args.table.now.entries in
     let f = turn_in c.args.turn_of.now in
     let line = c.args.line.now.pairs in
-    sym (found_first b es f line c.in-Some-best_from_least.found c.requires.rises (subst (λ (o : Option Found). IfSome o (λ x. IsFound b es f line x)) c.in-Some-best_from_least.is c.best_from_least.ensures.found)
-    (λ m lt. subst (λ (o : Option Found). IsLeast b es f line (found_rank o) m) c.in-Some-best_from_least.is (c.best_from_least.ensures.least m lt)))
+    sym (found_first b es f line c.in-Some-best_from_least.found c.requires.rises (subst (λ (o : Option BestFound). IfSome o (λ x. IsFound b es f line x)) c.in-Some-best_from_least.is c.best_from_least.ensures.found)
+    (λ m lt. subst (λ (o : Option BestFound). IsLeast b es f line (found_rank o) m) c.in-Some-best_from_least.is (c.best_from_least.ensures.least m lt)))
 
 pub returns-in-None-clause-first : goal.returns-in-None-clause-first
 returns-in-None-clause-first g c =
     let b = board_over c.args.wishes.now.cells c.args.wishes.now.opened c.args.table.now in
-    sym (none_first b c.args.table.now.entries (turn_in c.args.turn_of.now) c.args.line.now.pairs (λ m lt. subst (λ (o : Option Found). IsLeast b c.args.table.now.entries (turn_in c.args.turn_of.now) c.args.line.now.pairs (found_rank o) m) c.in-None.is (c.best_from_least.ensures.least m lt)))
+    sym (none_first b c.args.table.now.entries (turn_in c.args.turn_of.now) c.args.line.now.pairs (λ m lt. subst (λ (o : Option BestFound). IsLeast b c.args.table.now.entries (turn_in c.args.turn_of.now) c.args.line.now.pairs (found_rank o) m) c.in-None.is (c.best_from_least.ensures.least m lt)))
 
 pub returns-in-Some-best_from_least-clause-bounded : goal.returns-in-Some-best_from_least-clause-bounded
 returns-in-Some-best_from_least-clause-bounded g c m opened = (c.best_from_least.ensures.marks m).bounded opened

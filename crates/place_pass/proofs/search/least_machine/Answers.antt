@@ -5,7 +5,7 @@ use Rattle.fuxi_terms.proofs.Booleans.{both_true}
 use Rattle.place_pass.specs.Bounds.{mark_at, key_of}
 use Rattle.place_pass.specs.PackedRanks.{IsAbove}
 use Rattle.place_pass.specs.SearchCounts.{is_unsettled_by}
-use Rattle.place_pass.specs.Sights.{IsBehind}
+use Rattle.place_pass.specs.Candidates.{IsBehind}
 use Rattle.place_pass.specs.declared.search.Least.{Least}
 use Rattle.place_pass.proofs.PackedRanksLemmas.{never_above, behind_above}
 use Rattle.place_pass.proofs.search.least_machine.Goals as goal

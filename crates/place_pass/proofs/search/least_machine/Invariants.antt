@@ -1,6 +1,6 @@
 use Rattle.std.proofs.Common.{◌-◌, ◌<◌, ◌≤◌, length}
 use Rattle.std.specs.Prelude.{IfSome}
-use Rattle.place_pass.specs.Sights.{AreBehind}
+use Rattle.place_pass.specs.Candidates.{AreBehind}
 use Rattle.place_pass.proofs.search.least_machine.Given as goal
 
 abbrev pub invariant-loop-at : goal.invariant-loop-at

@@ -1,7 +1,7 @@
 use Rattle.std.proofs.Common.{◌≡◌, true, sym, ◌∙◌, subst}
 use Rattle.place_pass.specs.Bounds.{rank_of, is_bound}
-use Rattle.place_pass.specs.Sights.{sight_rank}
-use Rattle.place_pass.proofs.SightsLemmas.{kept_better}
+use Rattle.place_pass.specs.Candidates.{sight_rank}
+use Rattle.place_pass.proofs.CandidatesLemmas.{kept_better}
 use Rattle.place_pass.proofs.search.may_be_nearer.Goals as goal
 
 pub returns-in-Some-clause-sooner : goal.returns-in-Some-clause-sooner

@@ -1,15 +1,15 @@
 use Rattle.std.proofs.Common.{◌-◌, ◌<◌, subst, arith, inl, inr}
 use Rattle.std.proofs.lemmas.Bool.{cases_lt}
 use Rattle.fuxi_terms.specs.Keys.{Pair}
-use Rattle.place_pass.specs.Sights.{turn_in}
-use Rattle.place_pass.proofs.SightsLemmas.{same_place}
+use Rattle.place_pass.specs.Candidates.{turn_in}
+use Rattle.place_pass.proofs.CandidatesLemmas.{same_place}
 use Rattle.place_pass.proofs.FirstByTurn.{rises_at}
 use Rattle.place_pass.proofs.search.place_from.Goals as goal
 
 pub returns-then-turn_of_unit-turn : goal.returns-then-turn_of_unit-turn
 returns-then-turn_of_unit-turn c k p lt e =
-    let line = c.args.scene.now.line.now.pairs in
-    let f = turn_in c.args.scene.now.turn_of.now in
+    let line = c.args.input.now.line.now.pairs in
+    let f = turn_in c.args.input.now.turn_of.now in
     let place = c.loop-place.place in
     let q : Pair = (c.at.result.0.0, c.at.result.1.0) in
     let t = c.turn_of_unit.ensures in

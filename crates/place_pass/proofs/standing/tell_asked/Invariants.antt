@@ -1,5 +1,5 @@
 use Rattle.std.proofs.Common.{◌≡◌, ℕ, ◌<◌, ◌≤◌, true, false, nat_eq, get_or}
-use Rattle.written_roles.specs.Placing.{has_pair}
+use Rattle.spec_roles.specs.Placing.{has_pair}
 use Rattle.locality_tree.specs.Trees.{unit_at}
 use Rattle.place_pass.specs.PlacerTrees.{HoldsLine, StandsAs}
 use Rattle.place_pass.proofs.standing.tell_asked.Given as goal

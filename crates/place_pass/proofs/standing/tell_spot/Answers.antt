@@ -5,7 +5,7 @@ use Rattle.fuxi_terms.specs.Tables.{Table}
 use Rattle.grant_table.specs.GrantTables.{TableRecord, as_known}
 use Rattle.wait_queue.specs.declared.node.Entry.{Entry}
 use Rattle.locality_tree.specs.Trees.{unit_number}
-use Rattle.written_roles.specs.Placing.{has_pair}
+use Rattle.spec_roles.specs.Placing.{has_pair}
 use Rattle.place_pass.specs.PlacerTrees.{AllStand, WaitsIn, Restood, RestoodAt}
 use Rattle.place_pass.proofs.CellsMatchTable.{rack_small}
 use Rattle.place_pass.proofs.PlacerTreesLemmas.{holds_on, waits_in}
@@ -52,7 +52,7 @@ returns-clause-stands c before is all =
     let k = ap (λ (x : ClusterRecord). length x.machines) c.requires.cluster in
     let there = c.requires.machine in
     let entries = ap (λ (t : TableRecord). t.entries) is.is in
-    let small : rack_of w.cluster m < 64 = subst (λ (x : ClusterRecord). rack_of x m < 64) (sym c.requires.cluster) (rack_small c.args.table.now.cluster c.cluster-table.ensures.sound.valid m there) in
+    let small : rack_of w.cluster m < 64 = subst (λ (x : ClusterRecord). rack_of x m < 64) (sym c.requires.cluster) (rack_small c.args.table.now.cluster c.is_sound.ensures.valid m there) in
     let at = subst (λ (es : Table). RestoodAt w.cluster w.cells es a u m (rack_of w.cluster m) c.args.tree.now c.mark_spot.new.tree) entries
     (subst (λ (e : Entry). RestoodAt w.cluster w.cells c.args.table.now.entries e.app.0 e.unit.0 m (rack_of w.cluster m) c.args.tree.now c.mark_spot.new.tree) c.entry_for-entry.ensures c.mark_spot.ensures.spot) in
     subst (λ (es : Table). AllStand w.cluster w.cells es line c.mark_spot.new.tree) (sym entries)

@@ -8,8 +8,8 @@ use Rattle.fuxi_terms.specs.Keys.{Pair}
 use Rattle.fuxi_terms.specs.Lists.{below}
 use Rattle.fuxi_terms.specs.Numbers.{has_number}
 use Rattle.fuxi_terms.proofs.Booleans.{and_false, and_true, both_true, number_is, or_false}
-use Rattle.written_roles.specs.Masters.{out_of}
-use Rattle.written_roles.specs.Placing.{has_pair, waiting_in}
+use Rattle.spec_roles.specs.Masters.{out_of}
+use Rattle.spec_roles.specs.Placing.{has_pair, waiting_in}
 use Rattle.grant_table.specs.GrantTables.{as_known}
 use Rattle.place_pass.specs.Cells.{asks_in}
 use Rattle.place_pass.specs.WaitingLines.{same_pair, waiting_of}
@@ -52,12 +52,12 @@ loop-number-init c =
           let known = both_true (nat_lt p.1 (units p.0)) (out p.0 p.1) (both_true (has_number p.0 numbers) _ (sym (has_flat units out p.0 p.1 numbers) ∙ b.0)).1 in
           let unit = known.0 in
           let count = count_is w.cluster w.cells t c.requires.level p.0 in
-          let small = (placed w.cluster w.cells w.opened c.cluster-wishes.ensures.sound p.0 p.1 (grind (arith, nat_tests, unit, count))).0 in
+          let small = (placed w.cluster w.cells w.opened c.are_sound.ensures p.0 p.1 (grind (arith, nat_tests, unit, count))).0 in
           let there = calm_waits w.cells old c.args.calm.now t numbers c.requires.still p (c.low-low.ensures p.0 (grind (arith, nat_tests, lt)) small) b.0 in
           let no : false ≡ true = sym (ap not there) ∙ f.1 in
           let z : ⊥ = cc in z)) ∙ append_nil old);
       admitted = c.requires.admitted;
-      room = omega arith;
+      units = λ p. refl;
     }
 
 -- of a calm job nobody is appended
@@ -80,7 +80,7 @@ loop-number-preserved-then-is_calm c =
             | false ↦ λ f. ap (λ b. b && r p) (grind (arith, nat_tests, f))
           ] refl));
       admitted = c.loop-number.invariant.admitted;
-      room = c.loop-number.invariant.room;
+      units = c.loop-number.invariant.units;
     }
 
 pub loop-number-preserved : goal.loop-number-preserved
@@ -113,7 +113,7 @@ loop-number-preserved c =
           ∙ append_assoc old (filter q all) (filter r (waiting_of asks t.entries n (units n)))
           ∙ ap (λ xs. old ++ xs) (sym (one_job_more r (λ a. filter (out a) (below (units a))) n t.jobs c.requires.jobs none));
       admitted = c.join_units.ensures.admitted;
-      room = let x = c.loop-number.invariant.room in let y = c.join_units.ensures.room in omega (arith, x, y);
+      units = λ p. c.join_units.ensures.units p ∙ c.loop-number.invariant.units p;
     }
 
 pub returns-clause-pairs : goal.returns-clause-pairs
@@ -135,6 +135,6 @@ returns-clause-pairs c =
           let known = both_true (nat_lt p.1 (units p.0)) (out p.0 p.1) (both_true (has_number p.0 numbers) _ (sym (has_flat units out p.0 p.1 numbers) ∙ has)).1 in
           let unit = known.0 in
           let count = count_is w.cluster w.cells t c.requires.level p.0 in
-          let small = (placed w.cluster w.cells w.opened c.cluster-wishes.ensures.sound p.0 p.1 (grind (arith, nat_tests, unit, count))).0 in
+          let small = (placed w.cluster w.cells w.opened c.are_sound.ensures p.0 p.1 (grind (arith, nat_tests, unit, count))).0 in
           sym (ap not (calm_waits w.cells old c.args.calm.now t numbers c.requires.still p (c.high-high.ensures p.0 ge small) has))
     ] refl))

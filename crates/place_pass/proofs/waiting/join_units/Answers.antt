@@ -3,8 +3,8 @@ use Rattle.std.specs.Prelude.{◌&&◌, ◌||◌}
 use Rattle.std.proofs.lemmas.Bool.Decides.{nat_tests}
 use Rattle.fuxi_terms.proofs.Booleans.{and_false, or_false}
 use Rattle.fuxi_terms.specs.Keys.{Pair}
-use Rattle.written_roles.specs.Masters.{out_of}
-use Rattle.written_roles.specs.Placing.{has_pair}
+use Rattle.spec_roles.specs.Masters.{out_of}
+use Rattle.spec_roles.specs.Placing.{has_pair}
 use Rattle.place_pass.specs.Cells.{asks_in}
 use Rattle.place_pass.specs.WaitingLines.{same_pair, waiting_of}
 use Rattle.place_pass.proofs.WaitingLinesLemmas.{any_append, none_filter, append_nil, joined_more, none_yet}
@@ -26,7 +26,7 @@ loop-number-preserved-then-outstanding-eq0 c =
     record {
       pairs = c.loop-number.invariant.pairs ∙ sym (append_nil _) ∙ joined_more old r w a n false (ap (λ b. b && r (a, n)) test);
       admitted = c.loop-number.invariant.admitted;
-      room = c.loop-number.invariant.room;
+      units = c.loop-number.invariant.units;
     }
 
 pub loop-number-preserved-then-has : goal.loop-number-preserved-then-has
@@ -41,7 +41,7 @@ loop-number-preserved-then-has c =
     record {
       pairs = c.loop-number.invariant.pairs ∙ sym (append_nil _) ∙ joined_more old r w a n false (ap (λ b. w n && b) test ∙ and_false (w n));
       admitted = c.loop-number.invariant.admitted;
-      room = c.loop-number.invariant.room;
+      units = c.loop-number.invariant.units;
     }
 
 pub add_unit-requires-clause-new : goal.add_unit-requires-clause-new
@@ -60,5 +60,5 @@ loop-number-preserved c =
     record {
       pairs = c.add_unit.ensures.pairs ∙ ap (λ ks. ks ++ (a, n) ∷ []) c.loop-number.invariant.pairs ∙ joined_more old r w a n true (ap (λ b. b && r (a, n)) some ∙ test);
       admitted = c.add_unit.ensures.admitted;
-      room = let x = c.loop-number.invariant.room in let y = c.add_unit.ensures.room in omega (arith, x, y);
+      units = λ p. c.add_unit.ensures.units p ∙ c.loop-number.invariant.units p;
     }

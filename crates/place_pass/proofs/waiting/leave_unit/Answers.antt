@@ -6,8 +6,8 @@ use Rattle.fuxi_terms.proofs.Booleans.{and_false}
 use Rattle.fuxi_terms.specs.Keys.{Pair}
 use Rattle.wait_queue.specs.declared.node.Entry.{Entry}
 use Rattle.locality_tree.specs.Trees.{TreeRecord, is_admitted, refreshed, MayWait}
-use Rattle.written_roles.specs.Masters.{out_of}
-use Rattle.written_roles.specs.Placing.{has_pair}
+use Rattle.spec_roles.specs.Masters.{out_of}
+use Rattle.spec_roles.specs.Placing.{has_pair}
 use Rattle.place_pass.specs.Bounds.{turn_at}
 use Rattle.place_pass.specs.Cells.{asks_in}
 use Rattle.place_pass.specs.PlacerTrees.{HoldsLine, AllStand}
@@ -37,7 +37,7 @@ pub refresh-requires-clause-admitted : goal.refresh-requires-clause-admitted
 refresh-requires-clause-admitted c =
     let w = c.args.wishes.now in
     let a = c.args.app.0 in let u = c.args.unit.0 in
-    let lu = (placed w.cluster w.cells w.opened c.cluster-wishes.ensures.sound a u c.requires.here).1 in
+    let lu = (placed w.cluster w.cells w.opened c.are_sound.ensures a u c.requires.here).1 in
     subst (λ (e : Entry). is_admitted c.args.tree.now e.app.0 e.unit.0 ≡ true) (sym c.entry_for-entry.ensures) (admitted_in w.cluster w.cells (λ p. has_pair p c.args.line.now.pairs) c.args.turn_of.now.items c.args.tree.now a u c.requires.holds lu c.requires.here)
 
 pub refresh-requires-clause-entry : goal.refresh-requires-clause-entry
@@ -45,7 +45,7 @@ refresh-requires-clause-entry c =
     let w = c.args.wishes.now in
     let line = c.args.line.now.pairs in
     let a = c.args.app.0 in let u = c.args.unit.0 in
-    let small = placed w.cluster w.cells w.opened c.cluster-wishes.ensures.sound a u c.requires.here in
+    let small = placed w.cluster w.cells w.opened c.are_sound.ensures a u c.requires.here in
     let there : has_pair (a, u) line ≡ true = sym c.has.ensures ∙ c.if-not-has.false in
     subst (MayWait c.args.tree.now) (sym c.entry_for-entry.ensures) (may_wait w.cluster w.cells (λ p. has_pair p line) c.args.turn_of.now.items c.args.tree.now a u c.requires.holds small.0 small.1
     (λ b v x e. turn_apart (λ (p : Pair). turn_at c.args.turn_of.now.items p.0 p.1) line (a, u) (b, v) c.requires.rises there x e))
@@ -75,7 +75,7 @@ returns-clause-holds c =
     let a = c.args.app.0 in let u = c.args.unit.0 in
     let t = c.args.tree.now in
     subst (λ (l : List Pair). HoldsLine w.cluster w.cells l c.args.turn_of.now.items c.refresh.new.self) (sym (c.remove.ensures.pairs (c.args.app.0, c.args.unit.0) c.place_of-place.ensures))
-    (holds_left w.cluster w.cells (λ p. has_pair p line) (λ p. has_pair p (others_in a u line)) c.args.turn_of.now.items t c.refresh.new.self a u c.requires.holds (placed w.cluster w.cells w.opened c.cluster-wishes.ensures.sound a u c.requires.here).1 c.requires.here
+    (holds_left w.cluster w.cells (λ p. has_pair p line) (λ p. has_pair p (others_in a u line)) c.args.turn_of.now.items t c.refresh.new.self a u c.requires.holds (placed w.cluster w.cells w.opened c.are_sound.ensures a u c.requires.here).1 c.requires.here
     (others_same c) (has_others a u line (a, u) ∙ ap (λ x. has_pair (a, u) line && not x) (pair_self (a, u)) ∙ and_false (has_pair (a, u) line))
     (c.refresh.ensures ∙ ap (λ (e : Entry). refreshed t e false) c.entry_for-entry.ensures))
 
@@ -85,7 +85,7 @@ returns-clause-stands c es all =
     let line = c.args.line.now.pairs in
     let a = c.args.app.0 in let u = c.args.unit.0 in
     let t = c.args.tree.now in
-    let lu = (placed w.cluster w.cells w.opened c.cluster-wishes.ensures.sound a u c.requires.here).1 in
+    let lu = (placed w.cluster w.cells w.opened c.are_sound.ensures a u c.requires.here).1 in
     let made = c.refresh.ensures ∙ ap (λ (e : Entry). refreshed t e false) c.entry_for-entry.ensures in
     subst (λ (l : List Pair). AllStand w.cluster w.cells es l c.refresh.new.self) (sym (c.remove.ensures.pairs (c.args.app.0, c.args.unit.0) c.place_of-place.ensures)) (λ b v has.
     let x = apart_from a u line (b, v) has in

@@ -4,7 +4,7 @@ use Rattle.fuxi_terms.specs.Keys.{Pair}
 use Rattle.place_pass.specs.Bounds.{IsRising, turn_at}
 use Rattle.place_pass.proofs.FlagsTellWhoWaits.{has_at}
 use Rattle.place_pass.proofs.PlacerTreesLemmas.{turn_apart}
-use Rattle.place_pass.proofs.SightsLemmas.{index_within, place_of, same_place}
+use Rattle.place_pass.proofs.CandidatesLemmas.{index_within, place_of, same_place}
 use Rattle.place_pass.proofs.WaitingLinesLemmas.{pair_is}
 use Rattle.place_pass.proofs.waiting.place_of.Goals as goal
 

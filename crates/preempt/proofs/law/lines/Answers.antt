@@ -3,7 +3,7 @@ use Rattle.std.specs.Prelude.{◌&&◌, ◌||◌}
 use Rattle.std.specs.List.{AllByRecursion}
 use Rattle.fuxi_terms.proofs.Booleans.{and_true, nat_itself, or_right}
 use Rattle.fuxi_terms.specs.Keys.{Pair}
-use Rattle.written_roles.specs.Placing.{has_pair}
+use Rattle.spec_roles.specs.Placing.{has_pair}
 use Rattle.preempt.proofs.law.lines.Goals as goal
 
 each : (units : ℕ → ℕ) (line : List Pair) → ((a u : ℕ) → has_pair (a, u) line ≡ true → u < units a) → AllByRecursion (λ p. p.1 < units p.0) line

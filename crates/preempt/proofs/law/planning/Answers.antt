@@ -1,5 +1,5 @@
 use Rattle.fuxi_terms.proofs.Alls.{all_more}
-use Rattle.written_roles.specs.Preemption.{tried_in}
+use Rattle.spec_roles.specs.Preemption.{tried_in}
 use Rattle.preempt.proofs.Promised.{IsLower, promised}
 use Rattle.preempt.proofs.SearchLemmas.{first_found, none_before, none_from}
 use Rattle.preempt.proofs.Sums.{by_enough}

@@ -1,12 +1,11 @@
 use Rattle.std.proofs.Common.{◌≡◌, true, sym, ◌∙◌, ap, arith}
-use Rattle.std.specs.Prelude.{replicate}
 use Rattle.fuxi_terms.specs.Cluster.{ClusterRecord, is_narrow, limit_at}
 use Rattle.fuxi_terms.specs.Jobs.{size_at}
 use Rattle.fuxi_terms.specs.Tables.{usage_at}
 use Rattle.grant_table.specs.GrantTables.{as_known}
-use Rattle.preempt.proofs.CountedAsWritten.{size_is, zeros_at}
+use Rattle.preempt.proofs.CountedAsWritten.{size_is}
 use Rattle.preempt.proofs.ShelvesLemmas.{resources_few}
-use Rattle.preempt.proofs.NeedsAsWritten.{narrow_is, guaranteed_is}
+use Rattle.preempt.proofs.NeedsAsWritten.{narrow_is}
 use Rattle.preempt.proofs.need.need_of.Goals as goal
 
 pub returns : goal.returns
@@ -23,11 +22,11 @@ returns c =
       group = h.group;
       small = h.small;
       priority = h.priority;
-      guaranteed = c.reach.ensures ∙ guaranteed_is t e h c.resources-resources.result c.args.group.now c.sum_of-allowed.result (replicate 8 0) count c.requires.group few narrow zeros_at c.sum_of-allowed.ensures;
-      limit = λ i lt. c.requires.group.limit i lt ∙ ap (λ k. limit_at t.cluster k i) h.group;
+      guaranteed = c.is_guaranteed.ensures narrow;
+      limit = λ i lt. c.requires.group.limit i ∙ ap (λ k. limit_at t.cluster k i) h.group;
       allowed = λ i lt.
-          let a = c.sum_of-allowed.ensures i (omega (arith, lt, few)) in
-          let u = c.requires.group.used i lt ∙ ap (λ k. usage_at (as_known t.jobs) k i t.entries) h.group in
+          let a = c.sum_of.ensures i (omega (arith, lt, few)) in
+          let u = c.requires.group.used i ∙ ap (λ k. usage_at (as_known t.jobs) k i t.entries) h.group in
           let s = size_is t e h i in
           omega (arith, a, u, s);
     }

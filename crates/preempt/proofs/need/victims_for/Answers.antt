@@ -5,18 +5,18 @@ use Rattle.fuxi_terms.specs.Tables.{spot}
 use Rattle.grant_table.specs.GrantTables.{TableRecord, IsSound}
 use Rattle.preempt.specs.declared.plan.Victim.{Victim}
 use Rattle.preempt.specs.Given.{AreGiven, AreGroups, IsEntry}
-use Rattle.preempt.specs.Shelves.{IsShelf, IsWanted}
+use Rattle.preempt.specs.Shelves.{AreMachineGrants, IsWanted}
 use Rattle.preempt.proofs.ShelvesLemmas.{resources_few}
 use Rattle.preempt.proofs.NeedsAsWritten.{if_ok}
 use Rattle.preempt.proofs.need.victims_for.Goals as goal
 
 -- what is given on the machine
-given : (c : goal.After-victims_on) (t : TableRecord) (m : ℕ) → IsSound t → AreGroups t c.args.groups.now → IsEntry t c.args.e.now → IsWanted t c.args.e.now.app.0 c.args.e.now.unit.0 c.args.need.now → IsShelf t m c.args.shelf.now
-    → AreGiven t (spot c.args.e.now.app.0 c.args.e.now.unit.0 m) c.args.shelf.now.entries.now c.on_shelf-need.result c.args.groups.now
+given : (c : goal.After-victims_on) (t : TableRecord) (m : ℕ) → IsSound t → AreGroups t c.args.groups.now → IsEntry t c.args.e.now → IsWanted t c.args.e.now.app.0 c.args.e.now.unit.0 c.args.need.now → AreMachineGrants t m c.args.shelf.now
+    → AreGiven t (spot c.args.e.now.app.0 c.args.e.now.unit.0 m) c.args.shelf.now.entries.now c.on_machine_grants-need.result c.args.groups.now
 given c t m sound groups entry wanted shelf = record {
   walk = shelf.walk;
   each = shelf.each;
-  need = c.on_shelf-need.ensures.need t m entry wanted shelf (resources_few t.cluster sound.valid);
+  need = c.on_machine_grants-need.ensures.need t m entry wanted shelf (resources_few t.cluster sound.valid);
   groups_are = groups;
 }
 

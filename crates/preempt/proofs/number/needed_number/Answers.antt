@@ -9,8 +9,8 @@ returns-then-most-eq0 c =
     let n = c.args.need.now in
     let e = c.args.e.now in
     let le = greatest_most n.resources (needed_in_one n c.args.all.now c.args.own.now e c.args.most) c.args.most (λ i _.
-    let fits = reach_most (slice_index n.has i + slice_index c.args.all.now i) (slice_index n.fits i) (slice_index e.size.now i) c.args.most in
-    let within = reach_most (slice_index n.limit i + slice_index c.args.own.now i) (slice_index n.allowed i) (cond (nat_eq e.group n.group) (slice_index e.size.now i) 0) c.args.most in
+    let fits = reach_most (slice_index n.has i + slice_index c.args.all.now i) (slice_index n.fits i) (slice_index e.size.now.q i) c.args.most in
+    let within = reach_most (slice_index n.limit i + slice_index c.args.own.now i) (slice_index n.allowed i) (cond (nat_eq e.group n.group) (slice_index e.size.now.q i) 0) c.args.most in
     omega (arith, fits, within)) in
     let none = c.if-most-eq0.true in
     omega (arith, le, none)

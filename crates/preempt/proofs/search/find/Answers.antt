@@ -4,7 +4,7 @@ use Rattle.preempt.specs.Given.{AreGroups, IsEntry, pair_of}
 use Rattle.preempt.specs.Search.{IsFound}
 use Rattle.preempt.specs.Shelves.{AreFree, AreHolders, AreRead, HasNoVictims}
 use Rattle.preempt.specs.Walks.{entries_by_priority}
-use Rattle.written_roles.specs.Preemption.{falling_priorities}
+use Rattle.spec_roles.specs.Preemption.{falling_priorities}
 use Rattle.preempt.proofs.Served.{down_to, line_without, same_plan}
 use Rattle.preempt.proofs.search.find.Goals as goal
 

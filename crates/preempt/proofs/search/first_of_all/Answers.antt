@@ -1,5 +1,5 @@
 use Rattle.std.proofs.Common.{◌≡◌, ◌-◌, None, map, take, sym, subst, arith}
-use Rattle.written_roles.specs.Preemption.{first_plan_in, falling_priorities}
+use Rattle.spec_roles.specs.Preemption.{first_plan_in, falling_priorities}
 use Rattle.preempt.specs.Given.{board_at, pair_of}
 use Rattle.preempt.specs.Search.{IsFound, pairs_at}
 use Rattle.preempt.proofs.Priorities.{search_without}

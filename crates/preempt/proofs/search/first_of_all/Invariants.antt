@@ -1,6 +1,6 @@
 use Rattle.std.proofs.Common.{◌≡◌, map, take, None}
 use Rattle.std.specs.List.{flat_map}
-use Rattle.written_roles.specs.Preemption.{first_plan_in, falling_priorities}
+use Rattle.spec_roles.specs.Preemption.{first_plan_in, falling_priorities}
 use Rattle.preempt.specs.Given.{board_at, pair_of}
 use Rattle.preempt.specs.Search.{pairs_at}
 use Rattle.preempt.proofs.search.first_of_all.Given as goal

@@ -1,6 +1,6 @@
 use Rattle.std.proofs.Common.{◌≡◌, map, take, None}
 use Rattle.std.specs.List.{AllByRecursion}
-use Rattle.written_roles.specs.Preemption.{first_plan_in}
+use Rattle.spec_roles.specs.Preemption.{first_plan_in}
 use Rattle.preempt.specs.Given.{board_at, pair_of}
 use Rattle.preempt.specs.MachineRooms.{AreRooms}
 use Rattle.preempt.specs.Search.{pairs_at}

@@ -1,5 +1,5 @@
 use Rattle.std.proofs.Common.{◌≡◌, None}
-use Rattle.written_roles.specs.Preemption.{first_plan_in}
+use Rattle.spec_roles.specs.Preemption.{first_plan_in}
 use Rattle.preempt.specs.Given.{board_at, pair_of}
 use Rattle.preempt.specs.Search.{accepts_at, pairs_to}
 use Rattle.preempt.proofs.search.first_within.Given as goal

@@ -1,7 +1,7 @@
 use Rattle.std.proofs.Common.{◌≡◌, None, Some, sym, ◌∙◌, ap, subst}
 use Rattle.std.specs.Prelude.{MatchOption, IfSome}
 use Rattle.fuxi_terms.specs.Tables.{spot}
-use Rattle.written_roles.specs.Preemption.{victims_in}
+use Rattle.spec_roles.specs.Preemption.{victims_in}
 use Rattle.preempt.specs.Given.{board_of, pair_of}
 use Rattle.preempt.specs.Plans.{AreTakable, losers_of}
 use Rattle.preempt.specs.Shelves.{IsWalked}
@@ -12,14 +12,14 @@ use Rattle.preempt.proofs.search.plan_on.Goals as goal
 pub returns-then-not-accepts : goal.returns-then-not-accepts
 returns-then-not-accepts g c = λ passed. passed_closed c.args.table.now (g.P.Asking.usable c.args.placer.now) (pair_of c.args.e.now) c.args.machine.0 (sym c.accepts.ensures ∙ c.if-not-accepts.true) passed
 
-pub shelf_of-shelf-requires-clause-entries : goal.shelf_of-shelf-requires-clause-entries
-shelf_of-shelf-requires-clause-entries g c = subst (IsWalked c.args.table.now c.args.machine.0) (sym c.deref.ensures.value) c.in_ok-entries.ensures
+pub machine_grants_of-shelf-requires-clause-entries : goal.machine_grants_of-shelf-requires-clause-entries
+machine_grants_of-shelf-requires-clause-entries g c = subst (IsWalked c.args.table.now c.args.machine.0) (sym c.deref.ensures.value) c.in_ok-entries.ensures
 
 pub victims_for-requires-clause-few : goal.victims_for-requires-clause-few
-victims_for-requires-clause-few g c = c.shelf_of-shelf.ensures.shelf.few
+victims_for-requires-clause-few g c = c.machine_grants_of-shelf.ensures.shelf.few
 
 pub victims_for-requires-clause-small : goal.victims_for-requires-clause-small
-victims_for-requires-clause-small g c = λ k d lt. (at_index _ c.shelf_of-shelf.result.entries.now k d lt c.shelf_of-shelf.ensures.shelf.each).small
+victims_for-requires-clause-small g c = λ k d lt. (at_index _ c.machine_grants_of-shelf.result.entries.now k d lt c.machine_grants_of-shelf.ensures.shelf.each).small
 
 pub victims_for-requires-clause-long : goal.victims_for-requires-clause-long
 victims_for-requires-clause-long g c = c.requires.stock.groups.long
@@ -29,8 +29,8 @@ returns-in-Some g c = λ passed.
     let t = c.args.table.now in
     let e = c.args.e.now in
     let n = c.args.machine.0 in
-    let sound = c.cluster-cluster.ensures.sound in
-    let shelf = c.shelf_of-shelf.ensures.shelf in
+    let sound = c.is_sound.ensures in
+    let shelf = c.machine_grants_of-shelf.ensures.shelf in
     let vs = c.of-victims.result in
     let found : victims_in (board_of t) t.entries (spot e.app.0 e.unit.0 n) ≡ Some (losers_of n vs) =
     subst (λ o. MatchOption o (victims_in (board_of t) t.entries (spot e.app.0 e.unit.0 n) ≡ None) (λ xs. victims_in (board_of t) t.entries (spot e.app.0 e.unit.0 n) ≡ Some (losers_of n xs.items))) c.in-Some.is (c.in_ok-victims.ensures.found t n sound c.requires.stock.groups c.requires.entry c.requires.wanted shelf)
@@ -46,5 +46,5 @@ returns g c = λ passed.
     let e = c.args.e.now in
     let n = c.args.machine.0 in
     let none : victims_in (board_of t) t.entries (spot e.app.0 e.unit.0 n) ≡ None =
-    subst (λ o. MatchOption o (victims_in (board_of t) t.entries (spot e.app.0 e.unit.0 n) ≡ None) (λ xs. victims_in (board_of t) t.entries (spot e.app.0 e.unit.0 n) ≡ Some (losers_of n xs.items))) c.in-None.is (c.in_ok-victims.ensures.found t n c.cluster-cluster.ensures.sound c.requires.stock.groups c.requires.entry c.requires.wanted c.shelf_of-shelf.ensures.shelf) in
+    subst (λ o. MatchOption o (victims_in (board_of t) t.entries (spot e.app.0 e.unit.0 n) ≡ None) (λ xs. victims_in (board_of t) t.entries (spot e.app.0 e.unit.0 n) ≡ Some (losers_of n xs.items))) c.in-None.is (c.in_ok-victims.ensures.found t n c.is_sound.ensures c.requires.stock.groups c.requires.entry c.requires.wanted c.machine_grants_of-shelf.ensures.shelf) in
     passed_without t (g.P.Asking.usable c.args.placer.now) (pair_of e) n (sym c.accepts.ensures ∙ c.if-not-accepts.false) none passed

@@ -22,7 +22,7 @@ loop-e-preserved c =
     let set = c.args.set.now in
     let k = c.loop-e.e-index in
     let g = c.args.need.now.group in
-    let no_entry : Entry = record { app = record { 0 = 0 }; unit = record { 0 = 0 }; group = 0; priority = 0; count = 0; size = record { ref_ptr = (0, 0); now = [] } } in
+    let no_entry : Entry = record { app = record { 0 = 0 }; unit = record { 0 = 0 }; group = 0; priority = 0; count = 0; size = record { ref_ptr = (0, 0); now = record { q = [] } } } in
     let e = get_or set k no_entry in
     let r = c.needed_number-count.result in
     let lt = c.loop-e-test.true in
@@ -30,10 +30,10 @@ loop-e-preserved c =
     let alls : (i : ℕ) → i < 8 → get_or c.lowered-rest.result i 0 ≡ total_in i c.loop-e.kept.items + total_in i (drop (k + 1) set) =
     λ i h. let a = c.lowered-rest.ensures i h in let o = c.loop-e.invariant.all i h in let f = total_first i k no_entry set lt in omega (arith, a, o, f) in
     let owns : (i : ℕ) → i < 8 → get_or c.lowered-own_rest.result i 0 ≡ part_in g i c.loop-e.kept.items + part_in g i (drop (k + 1) set) =
-    λ i h. let a = c.lowered-own_rest.ensures i h in let o = c.loop-e.invariant.own i h in let f = part_first g i k no_entry set lt in let q = ap (λ n. n * get_or e.size.now i 0) c.count_if.ensures in omega (arith, a, o, f, q) in
+    λ i h. let a = c.lowered-own_rest.ensures i h in let o = c.loop-e.invariant.own i h in let f = part_first g i k no_entry set lt in let q = ap (λ n. n * get_or e.size.now.q i 0) c.count_if.ensures in omega (arith, a, o, f, q) in
     record {
       all = λ i h. let a = c.raised-all.ensures.is i h in let o = alls i h in let p = ap (λ x. total_in i x) pushed ∙ total_push i c.loop-e.kept.items (recounted e r) in omega (arith, a, o, p);
-      own = λ i h. let a = c.raised-own.ensures.is i h in let o = owns i h in let p = ap (λ x. part_in g i x) pushed ∙ part_push g i c.loop-e.kept.items (recounted e r) in let q = ap (λ n. n * get_or e.size.now i 0) c.count_if-in-loop-e.ensures in omega (arith, a, o, p, q);
+      own = λ i h. let a = c.raised-own.ensures.is i h in let o = owns i h in let p = ap (λ x. part_in g i x) pushed ∙ part_push g i c.loop-e.kept.items (recounted e r) in let q = ap (λ n. n * get_or e.size.now.q i 0) c.count_if-in-loop-e.ensures in omega (arith, a, o, p, q);
       all_small = λ i h. let a = c.raised-all.ensures.small i h in let b = c.lowered-rest.ensures i h in let o = c.loop-e.invariant.all_small i h in omega (arith, a, b, o);
       own_small = λ i h. let a = c.raised-own.ensures.small i h in let b = c.lowered-own_rest.ensures i h in let o = c.loop-e.invariant.own_small i h in omega (arith, a, b, o);
       at = λ t s need each. subst (AtKeeping t s set (k + 1)) (sym pushed)

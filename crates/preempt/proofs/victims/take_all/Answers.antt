@@ -19,7 +19,7 @@ pub loop-e-preserved-then-count-eq0 : goal.loop-e-preserved-then-count-eq0
 loop-e-preserved-then-count-eq0 c =
     let entries = c.args.entries.now in
     let k = c.loop-e.e-index in
-    let no_entry : Entry = record { app = record { 0 = 0 }; unit = record { 0 = 0 }; group = 0; priority = 0; count = 0; size = record { ref_ptr = (0, 0); now = [] } } in
+    let no_entry : Entry = record { app = record { 0 = 0 }; unit = record { 0 = 0 }; group = 0; priority = 0; count = 0; size = record { ref_ptr = (0, 0); now = record { q = [] } } } in
     let e = get_or entries k no_entry in
     let r = c.needed_number-count.result in
     let part = c.of-part.result in
@@ -29,7 +29,7 @@ loop-e-preserved-then-count-eq0 c =
     let inside : e.group < 32 = c.requires.groups k no_entry c.loop-e-test.true in
     record {
       long = let l = c.loop-e.invariant.long in let a = ap length pushed ∙ length-append c.loop-e.set.items (recounted e r ∷ []) in omega (arith, l, a);
-      all = λ i lt. let o = c.loop-e.invariant.all i lt in let p = ap (λ x. total_in i x) pushed ∙ total_push i c.loop-e.set.items (recounted e r) in let z : r * get_or e.size.now i 0 ≡ 0 = ap (λ n. n * get_or e.size.now i 0) none ∙ omega arith in omega (arith, o, p, z);
+      all = λ i lt. let o = c.loop-e.invariant.all i lt in let p = ap (λ x. total_in i x) pushed ∙ total_push i c.loop-e.set.items (recounted e r) in let z : r * get_or e.size.now.q i 0 ≡ 0 = ap (λ n. n * get_or e.size.now.q i 0) none ∙ omega arith in omega (arith, o, p, z);
       parts = subst (ArePartsOf c.loop-e.parts) (sym pushed) (parts_same c.loop-e.parts c.loop-e.set.items (recounted e r) none c.loop-e.invariant.parts);
       all_small = λ i lt. let o = c.loop-e.invariant.all_small i lt in omega (arith, o);
       at = λ t s given. subst (AtTaking t s entries (k + 1)) (sym pushed)
@@ -42,7 +42,7 @@ pub loop-e-preserved : goal.loop-e-preserved
 loop-e-preserved c =
     let entries = c.args.entries.now in
     let k = c.loop-e.e-index in
-    let no_entry : Entry = record { app = record { 0 = 0 }; unit = record { 0 = 0 }; group = 0; priority = 0; count = 0; size = record { ref_ptr = (0, 0); now = [] } } in
+    let no_entry : Entry = record { app = record { 0 = 0 }; unit = record { 0 = 0 }; group = 0; priority = 0; count = 0; size = record { ref_ptr = (0, 0); now = record { q = [] } } } in
     let e = get_or entries k no_entry in
     let r = c.needed_number-count.result in
     let part = c.of-part.result in

@@ -15,7 +15,7 @@ use Rattle.preempt.proofs.walk.push_holders.Goals as goal
 pub held-requires : goal.held-requires
 held-requires c =
     let t = c.args.table.now in
-    let count = ap (unit_count (as_known t.jobs)) c.app.ensures.number ∙ units_counted t c.cluster-cluster.ensures.sound c.args.index c.job-job.result.now c.job-job.ensures in
+    let count = ap (unit_count (as_known t.jobs)) c.app.ensures.number ∙ units_counted t c.is_sound.ensures c.args.index c.job-job.result.now c.job-job.ensures in
     let test = c.loop-number-test.true in
     let end = c.units-number-end.ensures.number in
     omega (arith, count, test, end)
@@ -42,5 +42,5 @@ loop-number-preserved c =
           let e : Some job ≡ Some j = sym c.job-job.ensures ∙ at in
           let same : job ≡ j = cc in
           subst (λ (x : JobRecord). map pair_of c.push.new.self.items ≡ map pair_of front ++ filter (holds_some t.entries) (units_in x (n + 1))) same here;
-      entries = λ each. subst (AllByRecursion (IsEntry t)) (sym pushed) (all_push (IsEntry t) before c.entry_of.result (c.loop-number.invariant.entries each) (c.entry_of.ensures.entry t c.args.index c.cluster-cluster.ensures.sound c.job-job.ensures));
+      entries = λ each. subst (AllByRecursion (IsEntry t)) (sym pushed) (all_push (IsEntry t) before c.entry_of.result (c.loop-number.invariant.entries each) (c.entry_of.ensures.entry t c.args.index c.is_sound.ensures c.job-job.ensures));
     }

@@ -11,7 +11,7 @@ pub loop-back-preserved : goal.loop-back-preserved
 loop-back-preserved c =
     let units = c.args.units.now in
     let back = c.loop-back.back in
-    let no_entry : Entry = record { app = record { 0 = 0 }; unit = record { 0 = 0 }; group = 0; priority = 0; count = 0; size = record { ref_ptr = (0, 0); now = [] } } in
+    let no_entry : Entry = record { app = record { 0 = 0 }; unit = record { 0 = 0 }; group = 0; priority = 0; count = 0; size = record { ref_ptr = (0, 0); now = record { q = [] } } } in
     let e = get_or units (length units - 1 - back) no_entry in
     let rest = backward (of_priority c.args.priority) (take (length units - (back + 1)) units) in
     let step = backward_step (of_priority c.args.priority) units back no_entry c.loop-back-test.true in

@@ -1,11 +1,11 @@
 use Rattle.std.proofs.Common.{sym, subst}
-use Rattle.written_world.specs.Events.{Halt, act}
+use Rattle.spec_world.specs.Events.{Halt, act}
 use Rattle.schedule_text.specs.Halting.{halting}
 use Rattle.schedule_text.specs.Writing.{IsLineEvent}
 use Rattle.schedule_replay.specs.LineEvents.{event_as}
 use Rattle.schedule_replay.specs.Moves.{Acts}
-use Rattle.party_orders.specs.PartyOrders.{step_of}
-use Rattle.party_orders.specs.OrderedParties.{order_as}
+use Rattle.party_commands.specs.PartyCommands.{step_of}
+use Rattle.party_commands.specs.CommandedParties.{command_as}
 use Rattle.schedule_replay.proofs.ActsByOneStep.{acts_as}
 use Rattle.schedule_replay.proofs.OrdersAreEvents.{ordered}
 use Rattle.schedule_replay.proofs.acts.act.Goals as goal
@@ -13,8 +13,8 @@ use Rattle.schedule_replay.proofs.acts.act.Goals as goal
 pub returns-in-Some : goal.returns-in-Some
 returns-in-Some c =
     let order = c.in-Some.order in
-    acts_as (λ w. act w (event_as c.args.event.now)) (λ w. step_of w (order_as order)) c.args.running.now c.carry_out.new.running c.args.out.now.items c.carry_out.new.out.items c.carry_out.result
-    (λ w is s. ordered w c.args.event.now (order_as order) (sym c.in-Some.ensures.order)) c.carry_out.ensures
+    acts_as (λ w. act w (event_as c.args.event.now)) (λ w. step_of w (command_as order)) c.args.running.now c.carry_out.new.running c.args.out.now.items c.carry_out.new.out.items c.carry_out.result
+    (λ w is s. ordered w c.args.event.now (command_as order) (sym c.in-Some.ensures.order)) c.carry_out.ensures
 
 pub returns-in-Master : goal.returns-in-Master
 returns-in-Master c = subst (λ e. Acts (λ w. act w (event_as e)) c.args.running.now c.start_master.new.running c.args.out.now.items c.start_master.new.out.items c.start_master.result) (sym c.in-Master.is) c.start_master.ensures

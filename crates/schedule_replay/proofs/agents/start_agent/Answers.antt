@@ -2,12 +2,12 @@ use Rattle.std.proofs.Common.{◌≡◌, ◌<◌, true, false, length, sym, ◌�
 use Rattle.std.proofs.lemmas.Bool.Decides.{nat_tests}
 use Rattle.fuxi_terms.specs.Cluster.{ClusterRecord, has_machine, machine_of}
 use Rattle.fuxi_terms.specs.Padded.{padded}
-use Rattle.party_slots.specs.Slots.{boot_at}
-use Rattle.party_slots.specs.Peers.{agent_steps}
-use Rattle.written_net.specs.Channels.{agent_id}
-use Rattle.written_roles.specs.Refusals.{NotRising}
-use Rattle.written_world.specs.World.{refused}
-use Rattle.written_world.specs.Events.{start_agent}
+use Rattle.running_parties.specs.Slots.{boot_at}
+use Rattle.running_parties.specs.Peers.{agent_steps}
+use Rattle.spec_net.specs.Channels.{agent_id}
+use Rattle.spec_roles.specs.Refusals.{NotRising}
+use Rattle.spec_world.specs.World.{refused}
+use Rattle.spec_world.specs.Events.{start_agent}
 use Rattle.schedule_text.specs.declared.refusal.Refusal.TheVariants as why
 use Rattle.schedule_replay.specs.Worlds.{WorldRecord}
 use Rattle.schedule_replay.specs.Moves.{Acts, IsActed}

@@ -1,7 +1,7 @@
 use Rattle.std.proofs.Common.{◌++◌, sym, ◌∙◌, ap, subst}
-use Rattle.written_world.specs.World.{World, Step}
-use Rattle.written_world.specs.Events.{asks}
-use Rattle.party_orders.specs.OrderedParties.{app_command}
+use Rattle.spec_world.specs.World.{World, Step}
+use Rattle.spec_world.specs.Events.{asks}
+use Rattle.party_commands.specs.CommandedParties.{app_command}
 use Rattle.schedule_replay.specs.ReplayTexts.{lines_text}
 use Rattle.schedule_replay.specs.Worlds.{WorldRecord}
 use Rattle.schedule_replay.specs.Moves.{Acts, IsActed, refusal_lines}

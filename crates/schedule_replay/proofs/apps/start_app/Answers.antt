@@ -1,13 +1,13 @@
 use Rattle.std.proofs.Common.{◌≡◌, ◌<◌, true, false, List, refl, sym, ◌∙◌, ap, subst, arith}
 use Rattle.fuxi_terms.specs.Jobs.{KnownJob, is_known, has_ended, unit_count}
 use Rattle.hard_state.specs.HardFiles.{Kept}
-use Rattle.party_slots.specs.Slots.{boot_at}
-use Rattle.party_slots.specs.Peers.{app_steps}
-use Rattle.written_net.specs.Channels.{app_id}
-use Rattle.written_roles.specs.HardState.{HardState}
-use Rattle.written_roles.specs.Refusals.{NotRising}
-use Rattle.written_world.specs.World.{refused}
-use Rattle.written_world.specs.Events.{start_app}
+use Rattle.running_parties.specs.Slots.{boot_at}
+use Rattle.running_parties.specs.Peers.{app_steps}
+use Rattle.spec_net.specs.Channels.{app_id}
+use Rattle.spec_roles.specs.HardState.{HardState}
+use Rattle.spec_roles.specs.Refusals.{NotRising}
+use Rattle.spec_world.specs.World.{refused}
+use Rattle.spec_world.specs.Events.{start_app}
 use Rattle.schedule_text.specs.declared.refusal.Refusal.TheVariants as why
 use Rattle.schedule_replay.specs.Worlds.{WorldRecord}
 use Rattle.schedule_replay.specs.Moves.{Acts, IsActed}

@@ -1,7 +1,7 @@
 use Rattle.std.proofs.Common.{◌-◌, ◌<◌, ◌≤◌, None, length, sym, ◌∙◌, ap, arith}
 use Rattle.fuxi_terms.specs.Limits.{most_records}
 use Rattle.hard_state.specs.HardFiles.{Kept}
-use Rattle.written_join.specs.SeenWorlds.{master_seen}
+use Rattle.spec_refinement.specs.SeenWorlds.{master_seen}
 use Rattle.schedule_replay.specs.MasterCommands.{governing}
 use Rattle.schedule_replay.proofs.MasterCommandsLemmas.{master_here, runs_as}
 use Rattle.schedule_replay.proofs.JudgementIsBans.{is_below_fence, is_decided, is_too_many, runs_none}

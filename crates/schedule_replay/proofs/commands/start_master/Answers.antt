@@ -1,7 +1,7 @@
 use Rattle.std.proofs.Common.{subst}
 use Rattle.hard_state.specs.HardFiles.{Kept}
-use Rattle.written_roles.specs.HardState.{Raise, hard_step}
-use Rattle.party_slots.specs.RunningMasters.{MasterStartInWorld}
+use Rattle.spec_roles.specs.HardState.{Raise, hard_step}
+use Rattle.running_parties.specs.RunningMasters.{MasterStartInWorld}
 use Rattle.schedule_replay.proofs.MasterCommandsLemmas.{may_step, starts_done, starts_refused}
 use Rattle.schedule_replay.proofs.commands.start_master.Goals as goal
 

@@ -1,5 +1,5 @@
 use Rattle.std.proofs.Common.{subst}
-use Rattle.party_slots.specs.RunningMasters.{StopsIn}
+use Rattle.running_parties.specs.RunningMasters.{StopsIn}
 use Rattle.schedule_replay.proofs.MasterCommandsLemmas.{may_step, stop_done, stop_refused}
 use Rattle.schedule_replay.proofs.commands.stop_master.Goals as goal
 

@@ -1,5 +1,5 @@
 use Rattle.std.proofs.Common.{◌≡◌, ◌++◌, length, Some, subst}
-use Rattle.written_world.specs.Events.{deliver, deliver_one}
+use Rattle.spec_world.specs.Events.{deliver, deliver_one}
 use Rattle.schedule_text.specs.declared.refusal.Refusal.TheVariants as why
 use Rattle.schedule_replay.specs.ReplayTexts.{lines_text}
 use Rattle.schedule_replay.specs.Worlds.{WorldRecord}

@@ -1,5 +1,5 @@
 use Rattle.std.proofs.Common.{◌≡◌, ◌<◌, ◌++◌, length, refl, subst, arith}
-use Rattle.written_world.specs.Events.{deliver_one}
+use Rattle.spec_world.specs.Events.{deliver_one}
 use Rattle.schedule_replay.specs.ReplayTexts.{lines_text}
 use Rattle.schedule_replay.specs.Worlds.{WorldRecord}
 use Rattle.schedule_replay.specs.Moves.{heard_lines}

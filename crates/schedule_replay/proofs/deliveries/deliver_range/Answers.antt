@@ -1,5 +1,5 @@
 use Rattle.std.proofs.Common.{◌≡◌, ◌+◌, ◌-◌, ◌<◌, ◌≤◌, ◌++◌, length, Some, subst, arith}
-use Rattle.written_world.specs.Events.{deliver_all, deliver_one, deliver_range}
+use Rattle.spec_world.specs.Events.{deliver_all, deliver_one, deliver_range}
 use Rattle.schedule_text.specs.declared.refusal.Refusal.TheVariants as why
 use Rattle.schedule_replay.specs.ReplayTexts.{lines_text}
 use Rattle.schedule_replay.specs.Worlds.{WorldRecord, event_steps}

@@ -1,5 +1,5 @@
 use Rattle.std.proofs.Common.{◌+◌, ◌-◌, ◌≤◌}
-use Rattle.written_world.specs.Events.{deliver_all}
+use Rattle.spec_world.specs.Events.{deliver_all}
 use Rattle.schedule_replay.specs.Moves.{GoesThrough, TookSteps}
 use Rattle.schedule_replay.proofs.deliveries.deliver_range.Given as goal
 

@@ -1,9 +1,9 @@
 use Rattle.std.proofs.Common.{subst}
 use Rattle.std.proofs.lemmas.Result.{IfOk-weaker}
 use Rattle.schedule_unit.specs.declared.party.Role.TheVariants.{Master, Agent, App}
-use Rattle.party_slots.specs.Slots.{HearInWorld}
-use Rattle.party_slots.specs.Peers.{AgentStands, AppStands}
-use Rattle.party_slots.specs.RunningMasters.{MasterStands}
+use Rattle.running_parties.specs.Slots.{HearInWorld}
+use Rattle.running_parties.specs.Peers.{AgentStands, AppStands}
+use Rattle.running_parties.specs.RunningMasters.{MasterStands}
 use Rattle.schedule_replay.specs.Worlds.{WorldRecord}
 use Rattle.schedule_replay.specs.Moves.{IsHeardBy}
 use Rattle.schedule_replay.proofs.HeardInWorld.{hears_by, is_for, number_named}

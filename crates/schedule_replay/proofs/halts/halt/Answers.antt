@@ -2,7 +2,7 @@ use Rattle.std.proofs.Common.{sym, subst}
 use Rattle.std.specs.Prelude.{IfOk}
 use Rattle.std.proofs.lemmas.Result.{IfOk-weaker}
 use Rattle.fuxi_terms.specs.Cluster.{ClusterRecord}
-use Rattle.written_world.specs.Events.{StartMaster}
+use Rattle.spec_world.specs.Events.{StartMaster}
 use Rattle.schedule_replay.specs.LineEvents.{event_as}
 use Rattle.schedule_replay.specs.MasterCommands.{governing}
 use Rattle.schedule_replay.specs.HaltsInWorld.{Halts}

@@ -2,9 +2,9 @@ use Rattle.std.proofs.Common.{◌≡◌, true, false, is_some, Err, sym, ◌∙�
 use Rattle.std.specs.Prelude.{IfOk}
 use Rattle.std.proofs.lemmas.Result.{IfOk-weaker}
 use Rattle.fuxi_terms.proofs.Lookups.{none_is}
-use Rattle.written_roles.specs.HardState.{HardEvent}
-use Rattle.written_roles.specs.MasterSteps.{command_of}
-use Rattle.party_orders.specs.OrderedParties.{TestsAs, done_by, event_of, has_writing, master_command, written_for}
+use Rattle.spec_roles.specs.HardState.{HardEvent}
+use Rattle.spec_roles.specs.MasterSteps.{command_of}
+use Rattle.party_commands.specs.CommandedParties.{TestsAs, done_by, event_of, has_writing, master_command, written_for}
 use Rattle.schedule_text.specs.Printing.{as_refusal}
 use Rattle.schedule_text.specs.declared.refusal.Refusal.TheVariants as why
 use Rattle.schedule_replay.specs.MasterCommands.{governing}

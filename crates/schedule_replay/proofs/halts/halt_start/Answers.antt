@@ -1,8 +1,8 @@
 use Rattle.std.proofs.Common.{refl}
 use Rattle.std.proofs.lemmas.Result.{IfOk-weaker}
 use Rattle.fuxi_terms.specs.Cluster.{ClusterRecord}
-use Rattle.written_roles.specs.HardState.{Raise}
-use Rattle.written_world.specs.Events.{StartMaster}
+use Rattle.spec_roles.specs.HardState.{Raise}
+use Rattle.spec_world.specs.Events.{StartMaster}
 use Rattle.schedule_replay.specs.MasterCommands.{governing}
 use Rattle.schedule_replay.specs.HaltsInWorld.{Halts, HaltsWithin}
 use Rattle.schedule_replay.proofs.HaltsInWorldLemmas.{halt_refused, start_writes}

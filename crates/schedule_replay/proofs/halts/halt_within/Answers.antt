@@ -1,5 +1,5 @@
-use Rattle.written_roles.specs.HardState.{hard_step}
-use Rattle.party_orders.specs.OrderedParties.{event_of}
+use Rattle.spec_roles.specs.HardState.{hard_step}
+use Rattle.party_commands.specs.CommandedParties.{event_of}
 use Rattle.schedule_replay.proofs.MasterCommandsLemmas.{may_step}
 use Rattle.schedule_replay.proofs.HaltsInWorldLemmas.{halt_done, halt_unwritten, no_want}
 use Rattle.schedule_replay.proofs.halts.halt_within.Goals as goal

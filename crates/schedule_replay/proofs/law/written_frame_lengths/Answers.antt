@@ -2,8 +2,8 @@ use Rattle.std.proofs.Common.{◌≡◌, ◌+◌, refl, ap, ◌∙◌}
 use Rattle.party_ledgers.specs.declared.packets.Body.{Body}
 use Rattle.party_ledgers.specs.declared.packets.Body.TheVariants.{Nothing, Row, RowDelta, Join, Grants, GrantsDelta, Demand, DemandDelta}
 use Rattle.wire_frames.specs.Frames.{body_length as length_here}
-use Rattle.written_net.specs.Ledgers.{body_length}
-use Rattle.core_side.specs.Parcels.{content_of}
+use Rattle.spec_net.specs.Ledgers.{body_length}
+use Rattle.peer_channel.specs.Parcels.{content_of}
 use Rattle.schedule_replay.proofs.law.written_frame_lengths.Goals as goal
 
 same_length : (b : Body) → length_here b ≡ body_length (content_of b)

@@ -1,7 +1,7 @@
 use Rattle.std.proofs.Common.{◌<◌, ◌≤◌, ◌+◌, length, map, take, subst, arith}
 use Rattle.std.proofs.lemmas.List.{take_all}
 use Rattle.fuxi_terms.specs.Limits.{most_machines}
-use Rattle.written_world.specs.Events.{ban_each}
+use Rattle.spec_world.specs.Events.{ban_each}
 use Rattle.bad_nodes.specs.Ranks.{number_of}
 use Rattle.schedule_replay.specs.Worlds.{event_steps}
 use Rattle.schedule_replay.specs.WorldSteps.{limit_of}

@@ -1,5 +1,5 @@
 use Rattle.std.proofs.Common.{◌≤◌, length, map, take}
-use Rattle.written_world.specs.Events.{ban_each}
+use Rattle.spec_world.specs.Events.{ban_each}
 use Rattle.bad_nodes.specs.Ranks.{number_of}
 use Rattle.schedule_replay.specs.Moves.{GoesThrough, TookSteps}
 use Rattle.schedule_replay.proofs.masters.ban_each.Given as goal

@@ -1,7 +1,7 @@
 use Rattle.std.proofs.Common.{◌≡◌, ◌++◌, [], ◌∷◌, sym, subst}
-use Rattle.written_roles.specs.MasterSteps.{BansMachine}
-use Rattle.written_world.specs.Outputs.{Judged}
-use Rattle.written_world.specs.World.{World, Step}
+use Rattle.spec_roles.specs.MasterSteps.{BansMachine}
+use Rattle.spec_world.specs.Outputs.{Judged}
+use Rattle.spec_world.specs.World.{World, Step}
 use Rattle.schedule_replay.specs.ReplayTexts.{lines_text}
 use Rattle.schedule_replay.specs.Worlds.{WorldRecord}
 use Rattle.schedule_replay.specs.Moves.{ActsOnce, IsActedOnce, ban_one}

@@ -1,5 +1,5 @@
 use Rattle.std.proofs.Common.{◌≡◌, ◌++◌, map, Some, Ok, Err}
-use Rattle.written_world.specs.Events.{ban_each, judge}
+use Rattle.spec_world.specs.Events.{ban_each, judge}
 use Rattle.bad_nodes.specs.Ranks.{number_of}
 use Rattle.schedule_replay.specs.ReplayTexts.{lines_text}
 use Rattle.schedule_replay.specs.Worlds.{WorldRecord}

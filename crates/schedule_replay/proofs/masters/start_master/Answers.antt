@@ -1,6 +1,6 @@
 use Rattle.std.proofs.Common.{sym, subst}
-use Rattle.written_world.specs.World.{World, Step}
-use Rattle.written_world.specs.Events.{start_master}
+use Rattle.spec_world.specs.World.{World, Step}
+use Rattle.spec_world.specs.Events.{start_master}
 use Rattle.schedule_replay.specs.Worlds.{WorldRecord}
 use Rattle.schedule_replay.specs.Moves.{Acts, IsActed}
 use Rattle.schedule_replay.proofs.MastersActInWorld.{governed_on}

@@ -1,6 +1,6 @@
 use Rattle.std.proofs.Common.{◌∙◌, ap, subst}
 use Rattle.hard_state.specs.declared.hard.Hard.{Hard}
-use Rattle.written_world.specs.Events.{show_state}
+use Rattle.spec_world.specs.Events.{show_state}
 use Rattle.schedule_replay.specs.ReplayTexts.{frame_of}
 use Rattle.schedule_replay.specs.Worlds.{WorldRecord}
 use Rattle.schedule_replay.specs.Moves.{IsActed}

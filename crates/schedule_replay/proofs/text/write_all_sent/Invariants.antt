@@ -1,9 +1,9 @@
 use Rattle.std.proofs.Common.{◌≡◌, ◌++◌, List, map, take}
-use Rattle.core_side.specs.Parcels.{parcel_is}
-use Rattle.written_net.specs.Net.{Net, Packet as WrittenPacket}
-use Rattle.written_net.specs.Ledgers.{Ledger}
-use Rattle.written_join.specs.SeenWorlds.{parcel_of}
-use Rattle.written_world.specs.Outputs.{sent_lines}
+use Rattle.peer_channel.specs.Parcels.{parcel_is}
+use Rattle.spec_net.specs.Net.{Net, Packet as WrittenPacket}
+use Rattle.spec_net.specs.Ledgers.{Ledger}
+use Rattle.spec_refinement.specs.SeenWorlds.{parcel_of}
+use Rattle.spec_world.specs.Outputs.{sent_lines}
 use Rattle.schedule_replay.specs.ReplayTexts.{lines_text}
 use Rattle.schedule_replay.proofs.text.write_all_sent.Given as goal
 

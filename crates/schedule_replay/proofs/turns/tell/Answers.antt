@@ -1,7 +1,7 @@
 use Rattle.std.proofs.Common.{refl, sym, subst}
-use Rattle.written_parties.specs.SeenParties.{Masters, Agents, Apps}
+use Rattle.spec_refinement.specs.SeenParties.{Masters, Agents, Apps}
 use Rattle.schedule_replay.specs.Worlds.{WorldRecord}
-use Rattle.party_orders.specs.OrderedParties.{kind_named}
+use Rattle.party_commands.specs.CommandedParties.{kind_named}
 use Rattle.schedule_replay.specs.Moves.{Acts, told_of, with_masters, with_agents, with_apps}
 use Rattle.schedule_replay.proofs.turns.tell.Goals as goal
 

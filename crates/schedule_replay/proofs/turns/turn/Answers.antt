@@ -1,5 +1,5 @@
 use Rattle.std.proofs.Common.{Some, sym, ◌∙◌, ap, subst}
-use Rattle.party_slots.specs.Slots.{TurnInWorld}
+use Rattle.running_parties.specs.Slots.{TurnInWorld}
 use Rattle.schedule_replay.proofs.TurnSendsOrStops.{none_as, turns_as}
 use Rattle.schedule_replay.proofs.turns.turn.Goals as goal
 

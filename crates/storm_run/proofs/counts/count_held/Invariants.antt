@@ -2,7 +2,7 @@ use Rattle.std.proofs.Common.{◌≡◌, ◌*◌, ◌^◌, ◌≤◌}
 use Rattle.std.specs.List.{sum_by}
 use Rattle.fuxi_terms.specs.Lists.{below}
 use Rattle.app_master.specs.AppCores.{StandsFor}
-use Rattle.written_roles.specs.Apps.{AppRole, held_by}
+use Rattle.spec_roles.specs.Apps.{AppRole, held_by}
 use Rattle.storm_run.proofs.counts.count_held.Given as goal
 
 abbrev pub invariant-loop-unit : goal.invariant-loop-unit

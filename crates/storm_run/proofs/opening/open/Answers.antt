@@ -1,7 +1,8 @@
 use Rattle.std.proofs.Common.{Err}
 use Rattle.fuxi_terms.specs.Counts.{then_do}
-use Rattle.written_world.specs.Events.{StartMaster, StartAgent, StartApp}
+use Rattle.spec_world.specs.Events.{StartMaster, StartAgent, StartApp}
 use Rattle.storm_run.specs.Storms.{each, taken, submitted, opened}
+use Rattle.storm_run.specs.StormRuns.{outcome}
 use Rattle.storm_run.proofs.StormsLemmas.{Part, then_ran, then_stopped}
 use Rattle.storm_run.proofs.opening.open.Goals as goal
 
@@ -22,24 +23,24 @@ behind_first w = then_do (agents w) behind_agents
 
 pub returns-in-Err-clause-runs : goal.returns-in-Err-clause-runs
 unfolding opened
-returns-in-Err-clause-runs c = then_stopped first (λ w. behind_first) c.args.run c.in-Err.stop c.in-Err.ensures.runs
+returns-in-Err-clause-runs c = then_stopped first (λ w. behind_first) c.args.run.now c.in-Err.stop c.in-Err.ensures.runs
 
 pub returns-in-Err-tell_each-clause-runs : goal.returns-in-Err-tell_each-clause-runs
 unfolding opened
 returns-in-Err-tell_each-clause-runs c =
-    then_ran first (λ w. behind_first) c.args.run c.in-Ok.run' (Err c.in-Err-tell_each.stop) c.in-Ok.ensures.runs
-    (λ w good stands. then_stopped agents (λ w. behind_agents) c.in-Ok.run' c.in-Err-tell_each.stop c.in-Err-tell_each.ensures.runs)
+    then_ran first (λ w. behind_first) c.args.run.now c.take.new.self (Err c.in-Err-tell_each.stop) c.in-Ok.ensures.runs
+    (λ w good stands. then_stopped agents (λ w. behind_agents) c.take.new.self c.in-Err-tell_each.stop c.in-Err-tell_each.ensures.runs)
 
 pub returns-in-Err-submit_all-clause-runs : goal.returns-in-Err-submit_all-clause-runs
 unfolding opened
 returns-in-Err-submit_all-clause-runs c =
-    then_ran first (λ w. behind_first) c.args.run c.in-Ok.run' (Err c.in-Err-submit_all.stop) c.in-Ok.ensures.runs
-    (λ w good stands. then_ran agents (λ w. behind_agents) c.in-Ok.run' c.in-Ok-tell_each.run' (Err c.in-Err-submit_all.stop) c.in-Ok-tell_each.ensures.runs
-    (λ w good stands. then_stopped submitted (λ w. apps) c.in-Ok-tell_each.run' c.in-Err-submit_all.stop c.in-Err-submit_all.ensures.runs))
+    then_ran first (λ w. behind_first) c.args.run.now c.take.new.self (Err c.in-Err-submit_all.stop) c.in-Ok.ensures.runs
+    (λ w good stands. then_ran agents (λ w. behind_agents) c.take.new.self c.tell_each.new.self (Err c.in-Err-submit_all.stop) c.in-Ok-tell_each.ensures.runs
+    (λ w good stands. then_stopped submitted (λ w. apps) c.tell_each.new.self c.in-Err-submit_all.stop c.in-Err-submit_all.ensures.runs))
 
 pub returns-clause-runs : goal.returns-clause-runs
 unfolding opened
 returns-clause-runs c =
-    then_ran first (λ w. behind_first) c.args.run c.in-Ok.run' c.tell_each-2.result c.in-Ok.ensures.runs
-    (λ w good stands. then_ran agents (λ w. behind_agents) c.in-Ok.run' c.in-Ok-tell_each.run' c.tell_each-2.result c.in-Ok-tell_each.ensures.runs
-    (λ w good stands. then_ran submitted (λ w. apps) c.in-Ok-tell_each.run' c.in-Ok-submit_all.run' c.tell_each-2.result c.in-Ok-submit_all.ensures.runs (λ w good stands. c.tell_each-2.ensures.runs)))
+    then_ran first (λ w. behind_first) c.args.run.now c.take.new.self (outcome c.tell_each-2.new.self c.tell_each-2.result) c.in-Ok.ensures.runs
+    (λ w good stands. then_ran agents (λ w. behind_agents) c.take.new.self c.tell_each.new.self (outcome c.tell_each-2.new.self c.tell_each-2.result) c.in-Ok-tell_each.ensures.runs
+    (λ w good stands. then_ran submitted (λ w. apps) c.tell_each.new.self c.submit_all.new.run (outcome c.tell_each-2.new.self c.tell_each-2.result) c.in-Ok-submit_all.ensures.runs (λ w good stands. c.tell_each-2.ensures.runs)))

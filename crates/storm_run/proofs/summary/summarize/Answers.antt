@@ -1,6 +1,6 @@
 use Rattle.std.proofs.Common.{[], ◌∷◌, ◌++◌, length, sym, ◌∙◌, ap, subst, codes}
 use Rattle.schedule_replay.specs.Worlds.{StandsFor}
-use Rattle.written_world.specs.Quiet.{is_quiet}
+use Rattle.spec_world.specs.Quiet.{is_quiet}
 use Rattle.storm_run.specs.declared.counts.Count.TheVariants.{Granted, Held, Rows}
 use Rattle.storm_run.specs.Summaries.{answer, count_lines, line, summary}
 use Rattle.storm_run.proofs.Texts.{all_parts}
@@ -9,7 +9,7 @@ use Rattle.storm_run.proofs.summary.summarize.Goals as goal
 pub returns : goal.returns
 unfolding summary
 returns c = λ w good stands.
-    let there = subst (λ r. StandsFor r w) (sym c.world-world.ensures) stands in
+    let there = subst (λ r. StandsFor r w) (sym c.running-running.ensures) stands in
     let fence = c.fence.ensures w there in
     let quiet = c.quiet.ensures w good there ∙ ap (is_quiet w) fence in
     all_parts c.new-out.result.items c.write_head.new.out.items c.write_counts.new.out.items c.write_counts-2.new.out.items c.write_counts-3.new.out.items c.write_answer.new.out.items

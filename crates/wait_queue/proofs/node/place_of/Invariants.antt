@@ -7,7 +7,7 @@ use Rattle.wait_queue.proofs.WalksLemmas.{Reached, walk_left}
 use Rattle.wait_queue.proofs.node.place_of.Given as goal
 
 abbrev pub invariant-loop-place : goal.invariant-loop-place
-invariant-loop-place l = (front middle : List Item) (next : Option Slot) → Walks (value_at l.pool) l.fn.start l.entry front middle next → Reached front middle l.place
+invariant-loop-place l = (front middle : List Item) (next : Option Slot) → Walks (value_at l.pool) l.fn.start l.key_first l.entry front middle next → Reached front middle l.place
 
 abbrev pub decreases-loop-place : goal.decreases-loop-place
-decreases-loop-place l = walk_left (value_at l.pool) l.place
+decreases-loop-place l = walk_left (value_at l.pool) l.key_first l.place

@@ -1,9 +1,9 @@
 use Rattle.std.proofs.Common.{rules, ◌≡◌, ◌<◌, true, false, Ok, refl, ◌+◌, sym, ◌∙◌, ap, subst, arith}
 use Rattle.std.specs.Prelude.{◌&&◌, nat_lt, IfOk}
 use Rattle.std.proofs.lemmas.Bool.Decides.{nat_tests}
-use Rattle.written_net.specs.Net.{same_id}
-use Rattle.written_net.specs.Channels.{agent_id, is_master}
-use Rattle.core_side.specs.Parcels.{packet_of}
+use Rattle.spec_net.specs.Net.{same_id}
+use Rattle.spec_net.specs.Channels.{agent_id, is_master}
+use Rattle.peer_channel.specs.Parcels.{packet_of}
 use Rattle.agent_core.specs.AgentCores.{AgentCore}
 use Rattle.agent_core.proofs.Answered.{known_heard, new_answers}
 use Rattle.agent_core.proofs.agent.Core.hear.Goals as goal

@@ -43,7 +43,7 @@ invariant_of-self-2 c =
     let t = c.self.inside.table in
     record {
       level = c.changed.ensures.level t c.self.invariant.level (record { sound = c.self.invariant.sound; number = count spot_cmp t.entries (spot_of c.args.pick) + c.args.count; is = c.add.ensures });
-      sound = c.cluster-after.ensures.sound;
+      sound = c.is_sound.ensures;
     }
 
 pub returns : goal.returns

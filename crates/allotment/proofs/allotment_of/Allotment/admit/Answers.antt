@@ -2,8 +2,8 @@ use Rattle.std.proofs.Common.{◌≡◌, ◌-◌, ◌<◌, false, sym, subst, ap
 use Rattle.fuxi_terms.specs.Jobs.{is_known}
 use Rattle.fuxi_terms.specs.Tables.{held}
 use Rattle.fuxi_terms.specs.TallyKeys.{want_key}
-use Rattle.written_roles.specs.HardState.{with_job}
-use Rattle.written_roles.specs.Placing.{has_pair}
+use Rattle.spec_roles.specs.HardState.{with_job}
+use Rattle.spec_roles.specs.Placing.{has_pair}
 use Rattle.grant_table.specs.GrantTables.{TableRecord, as_known}
 use Rattle.place_pass.specs.Placers.{SeenRecord}
 use Rattle.allotment.specs.PlacingReads.{IsPlacing}

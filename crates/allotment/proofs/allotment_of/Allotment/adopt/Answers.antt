@@ -1,5 +1,5 @@
 use Rattle.std.proofs.Common.{List, ◌≡◌, ◌∙◌, ap, subst}
-use Rattle.written_roles.specs.Placing.{line_up}
+use Rattle.spec_roles.specs.Placing.{line_up}
 use Rattle.grant_table.specs.GrantTables.{TableRecord}
 use Rattle.allotment.specs.Allotted.{Allots, rows_put}
 use Rattle.allotment.proofs.ClearsLemmas.{touched_still}

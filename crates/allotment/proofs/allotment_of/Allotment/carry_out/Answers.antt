@@ -5,8 +5,8 @@ use Rattle.fuxi_terms.specs.Jobs.{size_at}
 use Rattle.fuxi_terms.specs.Keys.{spot_cmp}
 use Rattle.fuxi_terms.specs.Limits.{greatest_count}
 use Rattle.fuxi_terms.specs.Tables.{total_at, with_grant, Table}
-use Rattle.written_roles.specs.Masters.{Master}
-use Rattle.written_roles.specs.Placing.{line_up}
+use Rattle.spec_roles.specs.Masters.{Master}
+use Rattle.spec_roles.specs.Placing.{line_up}
 use Rattle.grant_table.specs.GrantTables.{TableRecord, as_known}
 use Rattle.place_pass.specs.Best.{spot_of}
 use Rattle.preempt.specs.Plans.{without_victims}
@@ -25,7 +25,7 @@ returns-clause-stands c k M allots =
     let p = c.args.plan.now.pick in
     let vs = c.args.plan.now.victims in
     let m = p.machine.0 in
-    let here : AreCounts spot_cmp (λ s. greatest_count) c.args.self.now.table.entries = subst (λ (r : AllotmentRecord). AreCounts spot_cmp (λ s. greatest_count) r.table.entries) c.self.view_is c.cluster-sound.ensures.sound.counts in
+    let here : AreCounts spot_cmp (λ s. greatest_count) c.args.self.now.table.entries = subst (λ (r : AllotmentRecord). AreCounts spot_cmp (λ s. greatest_count) r.table.entries) c.self.view_is c.is_sound.ensures.counts in
     let counts : AreCounts spot_cmp (λ s. greatest_count) M.table = subst (AreCounts spot_cmp (λ s. greatest_count)) allots.placing.entries here in
     let taken : Master = record M { table = without_victims M.table m vs } in
     let made : Master = record M { table = with_grant (without_victims M.table m vs) (spot_of p) } in

@@ -7,7 +7,7 @@ use Rattle.allotment.specs.Allotted.{AllotmentRecord, Clears}
 use Rattle.allotment.proofs.ClearsLemmas.{cleared_as, cleared_both, cleared_none}
 use Rattle.allotment.proofs.Cleared.{LeftWithout, is_admitted, machine_more, none_on, job_left}
 use Rattle.allotment.proofs.allotment_of.Allotment.clear_job.Goals as goal
-use Rattle.allotment.proofs.allotment_of.Allotment.clear_job.Goals.{After-cluster-after}
+use Rattle.allotment.proofs.allotment_of.Allotment.clear_job.Goals.{After-is_sound}
 
 pub loop-number-preserved : goal.loop-number-preserved
 loop-number-preserved c =
@@ -17,7 +17,7 @@ loop-number-preserved c =
     let one = subst (λ (js : List JobRecord). Clears (λ s. nat_eq s.job a && (nat_lt s.unit (unit_count (as_known js) a) && nat_eq s.machine n)) c.loop-number.self c.clear_units.new.self) (ap (λ (t : TableRecord). t.jobs) c.loop-number.invariant.table) c.in_ok-clear_units.ensures in
     cleared_as _ _ _ _ (machine_more x.table a n) (cleared_both _ _ _ _ _ c.loop-number.invariant one)
 
-left : (c : After-cluster-after) → LeftWithout (λ s. nat_eq s.job c.args.app.0) c.args.self.now c.loop-number.self
+left : (c : After-is_sound) → LeftWithout (λ s. nat_eq s.job c.args.app.0) c.args.self.now c.loop-number.self
 left c =
     let x = c.args.self.now in
     let a = c.args.app.0 in
@@ -25,7 +25,7 @@ left c =
     let here = ap (λ (r : AllotmentRecord). length r.table.cluster.machines) c.self.view_is in
     let end : c.loop-number.number ≡ length x.table.cluster.machines = let p = c.loop-number-test.false in let q = c.loop-number.auto.number-end in let r = c.machines-machines.ensures.number in omega (arith, p, q, r, same, here) in
     let all = subst (λ n. Clears (λ s. nat_eq s.job a && (is_admitted x.table a s.unit && nat_lt s.machine n)) x c.loop-number.self) end c.loop-number.invariant in
-    job_left a x c.loop-number.self (subst (λ (r : AllotmentRecord). IsSound r.table) c.self.view_is c.cluster.ensures.sound) (subst (λ (r : AllotmentRecord). IsSound r.table) c.self-2.view_is c.cluster-after.ensures.sound) all
+    job_left a x c.loop-number.self (subst (λ (r : AllotmentRecord). IsSound r.table) c.self.view_is c.cluster.ensures.sound) (subst (λ (r : AllotmentRecord). IsSound r.table) c.self-2.view_is c.is_sound.ensures) all
 
 pub returns-clause-stands : goal.returns-clause-stands
 returns-clause-stands c = (left c).stands

@@ -37,7 +37,7 @@ returns-then-back-credited-clause-credits c = λ given is.
     let units = unit_count (as_known x.table.jobs) a in
     let machines = length x.table.cluster.machines in
     let there = both_true (nat_lt k.unit units) (nat_lt k.number machines) (sym c.is_there.ensures ∙ c.if-not-is_there.false) in
-    let sound = subst (λ (r : AllotmentRecord). IsSound r.table) c.self.view_is c.cluster-sound.ensures.sound in
+    let sound = subst (λ (r : AllotmentRecord). IsSound r.table) c.self.view_is c.is_sound.ensures in
     credits_level a given k c.args.back x (number_is k.what 5 c.requires.back) (is_less k.unit units there.0) (is_less k.number machines there.1) (subst (λ n. c.args.back ≤ n) is c.if-back-credited.true) c.requires.waits sound.counts
 
 pub returns-then-not-is_there-clause-credits : goal.returns-then-not-is_there-clause-credits

@@ -1,5 +1,5 @@
 use Rattle.std.proofs.Common.{sym, subst}
-use Rattle.written_roles.specs.Placing.{line_up}
+use Rattle.spec_roles.specs.Placing.{line_up}
 use Rattle.place_pass.specs.Placers.{SeenRecord}
 use Rattle.allotment.specs.Allotted.{AllotmentRecord}
 use Rattle.allotment.specs.PlacingReads.{IsPlacing}

@@ -4,8 +4,8 @@ use Rattle.std.specs.Option.{option_map}
 use Rattle.fuxi_terms.specs.Jobs.{unit_count}
 use Rattle.fuxi_terms.specs.Tables.{held_on}
 use Rattle.grant_table.specs.GrantTables.{as_known}
-use Rattle.written_roles.specs.Placing.{Board}
-use Rattle.written_roles.specs.Preemption.{plan_in}
+use Rattle.spec_roles.specs.Placing.{Board}
+use Rattle.spec_roles.specs.Preemption.{plan_in}
 use Rattle.place_pass.specs.Placers.{IsUpToDate, usable_in}
 use Rattle.preempt.specs.declared.plan.Plan.{Plan}
 use Rattle.preempt.specs.Plans.{IsBoardOf, plan_as}

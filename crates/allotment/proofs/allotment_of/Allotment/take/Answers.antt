@@ -12,7 +12,7 @@ use Rattle.allotment.specs.Allotted.{AllotmentRecord, Allots, allotment_record, 
 use Rattle.allotment.proofs.Fewer.{IsFewer, fewer_told, told_as}
 use Rattle.allotment.proofs.OnlyTakesLemmas.{takes_some, none_fewer}
 use Rattle.allotment.proofs.allotment_of.Allotment.take.Goals as goal
-use Rattle.allotment.proofs.allotment_of.Allotment.take.Goals.{After-cluster-after}
+use Rattle.allotment.proofs.allotment_of.Allotment.take.Goals.{After-is_sound-2}
 
 pub changed-requires-clause-cluster : goal.changed-requires-clause-cluster
 changed-requires-clause-cluster c = c.levels.ensures.cluster c.self.inside.placer c.self.inside.table c.self.invariant.level ∙ sym (ap (λ (t : TableRecord). t.cluster) c.take.ensures)
@@ -38,10 +38,10 @@ invariant_of-self-2 c =
     let s = spot c.args.app.0 c.args.unit.0 c.args.machine.0 in
     record {
       level = c.changed.ensures.level t c.self.invariant.level (record { sound = c.self.invariant.sound; number = count spot_cmp t.entries s - c.args.count; is = c.take.ensures });
-      sound = c.cluster-after.ensures.sound;
+      sound = c.is_sound-2.ensures;
     }
 
-fewer : (c : After-cluster-after) → IsFewer (spot c.args.app.0 c.args.unit.0 c.args.machine.0) c.args.count c.args.self.now (allotment_record c.take.new.self c.changed.new.self c.push.new.self.items)
+fewer : (c : After-is_sound-2) → IsFewer (spot c.args.app.0 c.args.unit.0 c.args.machine.0) c.args.count c.args.self.now (allotment_record c.take.new.self c.changed.new.self c.push.new.self.items)
 fewer c =
     let x = c.args.self.now in
     let v = c.self.inside in

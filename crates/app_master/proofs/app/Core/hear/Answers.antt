@@ -1,12 +1,12 @@
 use Rattle.std.proofs.Common.{◌≡◌, ℕ, ◌<◌, ◌+◌, cond, true, false, sym, ◌∙◌, ap, subst, arith}
 use Rattle.std.specs.Prelude.{nat_lt, IfOk}
 use Rattle.std.proofs.lemmas.Bool.Decides.{nat_tests}
-use Rattle.written_net.specs.Sides.{hears_side, shown, appended}
-use Rattle.written_roles.specs.Apps.{app_party, app_told, no_excess, joined_demand}
-use Rattle.core_side.specs.Parcels.{parcel_is}
+use Rattle.spec_net.specs.Sides.{hears_side, shown, appended}
+use Rattle.spec_roles.specs.Apps.{app_party, app_told, no_excess, joined_demand}
+use Rattle.peer_channel.specs.Parcels.{parcel_is}
 use Rattle.fuxi_terms.specs.Tallies.{TallyRecord, ChangeRecord}
 use Rattle.delta_channel.specs.Standing.{Sending}
-use Rattle.core_side.specs.Bodies.{tally_of}
+use Rattle.peer_channel.specs.Bodies.{tally_of}
 use Rattle.app_master.specs.Usable.{carried_at, is_named, usable_in}
 use Rattle.app_master.specs.AppCores.{AppCore, StandsFor, IsUp}
 use Rattle.app_master.proofs.AppCoresLemmas.{comes_to, known_heard, joins}

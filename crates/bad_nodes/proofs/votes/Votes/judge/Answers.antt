@@ -4,7 +4,7 @@ use Rattle.std.proofs.lemmas.List.{take-map}
 use Rattle.std.proofs.lemmas.List.Sorted.{IsPermutation-map}
 use Rattle.std.proofs.lemmas.Fn.{always_returns_same}
 use Rattle.schedule_unit.specs.declared.party.MachineNo.{MachineNo}
-use Rattle.written_roles.specs.Votes.{votes_of}
+use Rattle.spec_roles.specs.Votes.{votes_of}
 use Rattle.bad_nodes.specs.Ranks.{number_of}
 use Rattle.bad_nodes.proofs.OneOrder.{not_behind, sorted_order}
 use Rattle.bad_nodes.proofs.votes.Votes.judge.Goals as goal

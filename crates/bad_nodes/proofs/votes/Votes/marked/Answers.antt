@@ -1,7 +1,7 @@
 use Rattle.std.proofs.Common.{map, sym, ap, ◌∙◌}
 use Rattle.std.specs.Global.{Vec}
 use Rattle.schedule_unit.specs.declared.party.MachineNo.{MachineNo}
-use Rattle.written_roles.specs.Votes.{is_marked}
+use Rattle.spec_roles.specs.Votes.{is_marked}
 use Rattle.bad_nodes.specs.Ranks.{number_of}
 use Rattle.bad_nodes.proofs.MarkedLemmas.{one_fails, one_passes}
 use Rattle.bad_nodes.proofs.votes.Votes.marked.Goals as goal

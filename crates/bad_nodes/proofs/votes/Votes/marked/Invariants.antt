@@ -1,6 +1,6 @@
 use Rattle.std.proofs.Common.{◌≡◌, map, filter}
 use Rattle.fuxi_terms.specs.Lists.{below}
-use Rattle.written_roles.specs.Votes.{is_marked}
+use Rattle.spec_roles.specs.Votes.{is_marked}
 use Rattle.bad_nodes.specs.Ranks.{number_of}
 use Rattle.bad_nodes.proofs.votes.Votes.marked.Given as goal
 

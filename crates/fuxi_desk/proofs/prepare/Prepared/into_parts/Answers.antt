@@ -1,5 +1,5 @@
 use Rattle.std.proofs.Common.{sym, subst}
-use Rattle.master_node.specs.MasterParties.{IsMasterOf}
+use Rattle.node_parties.specs.MasterParties.{IsMasterOf}
 use Rattle.fuxi_desk.specs.Preparing.{PreparedRecord}
 use Rattle.fuxi_desk.proofs.prepare.Prepared.into_parts.Goals as goal
 

@@ -1,7 +1,7 @@
 use Rattle.std.proofs.Common.{◌++◌, sym, ◌∙◌, ap, subst}
-use Rattle.node_party.specs.PartyEvents.{Commanded}
-use Rattle.node_party.specs.NodeTexts.{answer_text}
-use Rattle.master_node.specs.MasterParties.{StandsAs}
+use Rattle.node_core.specs.PartyEvents.{Commanded}
+use Rattle.node_core.specs.NodeTexts.{answer_text}
+use Rattle.node_parties.specs.MasterParties.{StandsAs}
 use Rattle.fuxi_desk.specs.Preparing.{PreparedRecord}
 use Rattle.fuxi_desk.proofs.prepare.Prepared.submit.Goals as goal
 

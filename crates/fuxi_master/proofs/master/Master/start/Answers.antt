@@ -1,5 +1,5 @@
 use Rattle.std.proofs.Common.{sym, ap, subst}
-use Rattle.written_roles.specs.MasterRoles.{master_started}
+use Rattle.spec_roles.specs.MasterRoles.{master_started}
 use Rattle.fuxi_master.specs.Cores.{StandsFor}
 use Rattle.fuxi_master.specs.Seen.{core_of}
 use Rattle.fuxi_master.specs.declared.state.Core.{Core}

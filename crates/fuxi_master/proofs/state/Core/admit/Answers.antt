@@ -1,12 +1,12 @@
 use Rattle.std.proofs.Common.{◌≡◌, ◌<◌, ℕ, length, refl, sym, ◌∙◌, ap, subst, arith}
 use Rattle.std.specs.List.{AllByRecursion}
 use Rattle.fuxi_terms.specs.Cluster.{ClusterRecord}
-use Rattle.written_roles.specs.HardState.{with_job}
+use Rattle.spec_roles.specs.HardState.{with_job}
 use Rattle.grant_table.specs.GrantTables.{TableRecord, IsSound}
 use Rattle.hard_state.specs.Knowledge.{Knowledge}
-use Rattle.broadcast.specs.declared.grants.News.{News}
+use Rattle.ledger_updates.specs.declared.grants.StepChanges.{StepChanges}
 use Rattle.std.specs.Prelude.{List, ◌+◌, Option, Some, None, set}
-use Rattle.broadcast.specs.AllShown.{App}
+use Rattle.ledger_updates.specs.AllShown.{App}
 use Rattle.fuxi_master.specs.Commands.{changed_by, admitting}
 use Rattle.fuxi_master.specs.Heard.{Changes}
 use Rattle.fuxi_master.specs.Seen.{core_of}
@@ -28,7 +28,7 @@ returns-clause-changes c =
     let z = c.in_ok-allotment.allotment in
     let e = c.in_ok-allotment.ensures in
     let d = c.in_ok-start.field-0 in
-    let news : News = record { reported = None; admitted = Some c.app-app.result; machines = c.in_ok-machines_in.field-0; job = None; credited = c.new.result } in
+    let news : StepChanges = record { reported = None; admitted = Some c.app-app.result; machines = c.in_ok-machines_in.field-0; job = None; credited = c.new.result } in
     let n : c.machines-machines.result ≡ length x.allotment.table.cluster.machines = c.machines-machines.ensures.number ∙ ap (λ (k : ClusterRecord). length k.machines) (c.cluster.ensures.cluster ∙ ap (λ (t : TableRecord). t.cluster) c.table.ensures) in
     subst (λ (os : List (Option App)). Changes news (changed_by (admitting j)) x (record x { known = c.admit.new.self; allotment = z; apps = set os c.app-app.result.0 (Some d) })) (sym c.in_ok-make_slots.ensures)
     (subst (λ (k : Knowledge). Changes news (changed_by (admitting j)) x (record (admitted_at x c.app-app.result.0 z d) { known = k })) (sym c.in_ok-admit.ensures.ok)

@@ -1,10 +1,10 @@
 use Rattle.std.proofs.Common.{◌≡◌, ◌≤◌, ◌++◌, length, map}
 use Rattle.std.specs.List.{AllByRecursion, flat_map}
 use Rattle.fuxi_terms.specs.Lists.{below}
-use Rattle.core_side.specs.Parcels.{IsSent}
-use Rattle.written_net.specs.Channels.{agent_id}
-use Rattle.written_roles.specs.MasterRoles.{MasterRole}
-use Rattle.core_side.specs.Parcels.{parcel_is}
+use Rattle.peer_channel.specs.Parcels.{IsSent}
+use Rattle.spec_net.specs.Channels.{agent_id}
+use Rattle.spec_roles.specs.MasterRoles.{MasterRole}
+use Rattle.peer_channel.specs.Parcels.{parcel_is}
 use Rattle.fuxi_master.specs.Cores.{StandsFor}
 use Rattle.fuxi_master.specs.Seen.{core_of}
 use Rattle.fuxi_master.proofs.TurnPackets.{sent_to}

@@ -2,8 +2,8 @@ use Rattle.std.proofs.Common.{◌≡◌, ◌++◌, ◌∷◌, [], Some, length, 
 use Rattle.std.specs.List.{flat_map}
 use Rattle.std.proofs.lemmas.List.{take_all}
 use Rattle.fuxi_terms.specs.Jobs.{is_known, job_numbers}
-use Rattle.written_net.specs.Channels.{app_id}
-use Rattle.core_side.specs.Parcels.{parcel_is}
+use Rattle.spec_net.specs.Channels.{app_id}
+use Rattle.peer_channel.specs.Parcels.{parcel_is}
 use Rattle.grant_table.specs.GrantTables.{TableRecord, as_known}
 use Rattle.fuxi_master.specs.Seen.{core_of}
 use Rattle.fuxi_master.proofs.Projected.{known_alike}
@@ -47,6 +47,6 @@ returns-clause-sends c =
     let over = c.loop-index-test.false in
     let many = c.jobs-index-end.ensures ∙ ap (λ (t : TableRecord). length t.jobs) t in
     let all : take i js ≡ js = take_all i js (omega (arith, over, many)) in
-    let order = ap (λ (t : TableRecord). job_numbers (as_known t.jobs)) (sym t) ∙ c.admitted_jobs.ensures.numbers c.table-table.result.now.jobs c.cluster-sound.ensures.sound.in_order ∙ ap (λ (t : TableRecord). numbers_in t.jobs) t in
+    let order = ap (λ (t : TableRecord). job_numbers (as_known t.jobs)) (sym t) ∙ c.admitted_jobs.ensures.numbers c.table-table.result.now.jobs c.is_sound.ensures.in_order ∙ ap (λ (t : TableRecord). numbers_in t.jobs) t in
     λ r h. c.loop-index.invariant.sends r h
     ∙ ap (λ ns. map parcel_is c.args.packets.now ++ flat_map (sent_to r) (map app_id ns)) (ap numbers_in all ∙ sym order ∙ c.requires.near.kept.numbers ∙ ap job_numbers (sym h.stands.jobs))

@@ -1,9 +1,9 @@
 use Rattle.std.proofs.Common.{◌≡◌, ◌++◌, map, take}
 use Rattle.std.specs.List.{AllByRecursion, flat_map}
-use Rattle.core_side.specs.Parcels.{IsSent}
-use Rattle.written_net.specs.Channels.{app_id}
-use Rattle.written_roles.specs.MasterRoles.{MasterRole}
-use Rattle.core_side.specs.Parcels.{parcel_is}
+use Rattle.peer_channel.specs.Parcels.{IsSent}
+use Rattle.spec_net.specs.Channels.{app_id}
+use Rattle.spec_roles.specs.MasterRoles.{MasterRole}
+use Rattle.peer_channel.specs.Parcels.{parcel_is}
 use Rattle.fuxi_master.specs.Cores.{StandsFor}
 use Rattle.fuxi_master.specs.Seen.{core_of}
 use Rattle.fuxi_master.proofs.TurnPackets.{sent_to, numbers_in}

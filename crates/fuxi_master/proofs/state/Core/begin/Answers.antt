@@ -5,4 +5,4 @@ use Rattle.fuxi_master.proofs.CommandsLemmas.{begun}
 use Rattle.fuxi_master.proofs.state.Core.begin.Goals as goal
 
 pub returns-clause-changes : goal.returns-clause-changes
-returns-clause-changes c = begun (core_of c.args.self.now) c.requires.core (subst IsSound c.table.ensures c.cluster-sound.ensures.sound) c.news.result c.news.ensures
+returns-clause-changes c = begun (core_of c.args.self.now) c.requires.core (subst IsSound c.table.ensures c.is_sound.ensures) c.news.result c.news.ensures

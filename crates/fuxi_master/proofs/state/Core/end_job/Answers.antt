@@ -3,7 +3,7 @@ use Rattle.fuxi_terms.specs.Jobs.{unit_count}
 use Rattle.fuxi_terms.specs.Tallies.{TallyRecord}
 use Rattle.grant_table.specs.GrantTables.{TableRecord, as_known, IsSound}
 use Rattle.hard_state.specs.Knowledge.{Knowledge}
-use Rattle.written_roles.specs.MasterSteps.{ended_in}
+use Rattle.spec_roles.specs.MasterSteps.{ended_in}
 use Rattle.fuxi_master.specs.Commands.{changed_by}
 use Rattle.fuxi_master.specs.Heard.{Changes}
 use Rattle.fuxi_master.specs.Seen.{core_of}
@@ -26,5 +26,5 @@ returns-clause-changes c =
     let e = c.in_ok-clear_job.ensures in
     let o = c.asked-2.ensures in
     subst (λ (k : Knowledge). Changes c.news.result (changed_by (λ M. ended_in M a)) x (record x { known = k; allotment = z })) (sym c.finish.ensures)
-    (job_ended x c.requires.core (subst IsSound c.table.ensures c.cluster-sound.ensures.sound) c.news.result c.news.ensures a y z e.stands e.touches e.table
+    (job_ended x c.requires.core (subst IsSound c.table.ensures c.is_sound.ensures) c.news.result c.news.ensures a y z e.stands e.touches e.table
     c.empty.result.entries (ap (λ (t : TallyRecord). t.entries) c.empty.ensures) o.stands o.table o.touched o.turns c.ends_alike.ensures.numbers c.ends_alike.ensures.records c.ends_alike.ensures.alike)

@@ -1,7 +1,7 @@
 use Rattle.std.proofs.Common.{rules, inl, inr, ◌≡◌, ◌≤◌, length, false, ap, subst, sym, ◌∙◌}
 use Rattle.fuxi_terms.specs.Jobs.{is_known}
-use Rattle.written_roles.specs.MasterSteps.{talks}
-use Rattle.core_side.specs.Parcels.{id_of}
+use Rattle.spec_roles.specs.MasterSteps.{talks}
+use Rattle.peer_channel.specs.Parcels.{id_of}
 use Rattle.fuxi_master.specs.Seen.{core_of}
 use Rattle.fuxi_master.specs.Steps.{HearsRole}
 use Rattle.fuxi_master.proofs.StepsLemmas.{wider, stranger_hears, agent_unknown, app_unknown}

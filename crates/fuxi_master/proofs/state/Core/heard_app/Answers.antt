@@ -2,7 +2,7 @@ use Rattle.std.proofs.Common.{rules, ◌≡◌, true, false, sym, ◌∙◌, ap,
 use Rattle.std.specs.Prelude.{◌||◌, ◌&&◌, nat_eq, IfSome}
 use Rattle.fuxi_master.specs.Cores.{HasBoots}
 use Rattle.fuxi_terms.specs.Tallies.{ChangeRecord}
-use Rattle.core_side.specs.Parcels.{id_of}
+use Rattle.peer_channel.specs.Parcels.{id_of}
 use Rattle.fuxi_master.specs.Heard.{Changes, ChangesAsked, demanding}
 use Rattle.fuxi_master.specs.Seen.{core_of}
 use Rattle.fuxi_master.specs.ToldAsHeard.{IsHeardOnly}
@@ -32,8 +32,8 @@ take_demand-requires-clause-asks c =
 pub take_demand-requires-clause-boots : goal.take_demand-requires-clause-boots
 take_demand-requires-clause-boots c = subst (λ f. HasBoots (λ a. f && nat_eq a c.args.packet.from.number) (core_of c.hear_app.new.self)) (sym c.fresh-fresh.ensures) c.in_ok-heard.ensures.boots
 
-pub finished-requires-clause-role : goal.finished-requires-clause-role
-finished-requires-clause-role c =
+pub end_step-requires-clause-role : goal.end_step-requires-clause-role
+end_step-requires-clause-role c =
     let e = c.in_ok-heard.ensures in
     let a = c.args.packet.from.number in
     let only = subst (λ t. IsHeardOnly a c.in_ok-heard.heard.fresh t e.near.role) (sym c.is_taken-taken.ensures) e.only in
@@ -41,8 +41,8 @@ finished-requires-clause-role c =
     has_role c.in_ok-news.news _ (core_of c.hear_app.new.self) (core_of c.take_demand.new.self) e.near c.in_ok-news.ensures.changes
     (told_demanding a c.fresh-fresh.result c.is_taken-taken.result e.near.role (subst (λ f. IsHeardOnly a f c.is_taken-taken.result e.near.role) (sym c.fresh-fresh.ensures) only) told)
 
-pub finished-requires-clause-within : goal.finished-requires-clause-within
-finished-requires-clause-within c = c.in_ok-news.ensures.changes.within c.args.steps (c.in_ok-heard.ensures.within c.args.steps c.requires.within)
+pub end_step-requires-clause-within : goal.end_step-requires-clause-within
+end_step-requires-clause-within c = c.in_ok-news.ensures.changes.within c.args.steps (c.in_ok-heard.ensures.within c.args.steps c.requires.within)
 
 pub returns : goal.returns
 returns c =
@@ -52,8 +52,8 @@ returns c =
     let a = c.args.packet.from.number in
     let d = c.in_ok-news.ensures in
     record {
-      core = c.in_ok-finished.ensures.core;
-      within = c.in_ok-finished.ensures.within;
-      hears = λ r h. app_changed c.step_ends.ensures y (core_of c.take_demand.new.self) (core_of c.finished.new.self) a c.args.packet c.in_ok-heard.heard c.is_taken-taken.result c.in_ok-news.news r (e.hears r h) c.is_taken-taken.ensures
-          (ap (λ q. id_of q a) c.requires.from) (app_talks x r h a c.requires.known) d.none (subst (λ f. Changes c.in_ok-news.news (λ r. demanding f c.is_taken-taken.result r a) y (core_of c.take_demand.new.self)) c.fresh-fresh.ensures d.changes) c.in_ok-finished.ensures.ends;
+      core = c.in_ok-end_step.ensures.core;
+      within = c.in_ok-end_step.ensures.within;
+      hears = λ r h. app_changed c.step_ends.ensures y (core_of c.take_demand.new.self) (core_of c.end_step.new.self) a c.args.packet c.in_ok-heard.heard c.is_taken-taken.result c.in_ok-news.news r (e.hears r h) c.is_taken-taken.ensures
+          (ap (λ q. id_of q a) c.requires.from) (app_talks x r h a c.requires.known) d.none (subst (λ f. Changes c.in_ok-news.news (λ r. demanding f c.is_taken-taken.result r a) y (core_of c.take_demand.new.self)) c.fresh-fresh.ensures d.changes) c.in_ok-end_step.ensures.ends;
     }

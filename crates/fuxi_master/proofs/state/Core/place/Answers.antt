@@ -1,9 +1,9 @@
 use Rattle.std.proofs.Common.{◌≡◌, true, Option, None, Some, sym, ◌∙◌, ap, subst}
 use Rattle.std.specs.Option.{unwrap_or, option_map}
 use Rattle.schedule_unit.specs.declared.party.Role.{Role}
-use Rattle.written_roles.specs.MasterRoles.{MasterRole}
-use Rattle.core_side.specs.Parcels.{id_of}
-use Rattle.broadcast.specs.AllShown.{Down, App}
+use Rattle.spec_roles.specs.MasterRoles.{MasterRole}
+use Rattle.peer_channel.specs.Parcels.{id_of}
+use Rattle.ledger_updates.specs.AllShown.{Down, App}
 use Rattle.fuxi_master.specs.Readers.{place_in, place_of}
 use Rattle.fuxi_master.specs.Seen.{core_of}
 use Rattle.fuxi_master.specs.Steps.{is_peer}

@@ -5,4 +5,4 @@ use Rattle.fuxi_master.proofs.RoomMade.{preempts}
 use Rattle.fuxi_master.proofs.state.Core.preempt.Goals as goal
 
 pub returns : goal.returns
-returns c = preempts (core_of c.args.self.now) c.requires.core (subst IsSound c.table.ensures c.cluster-sound.ensures.sound) c.preempted.new.allotment c.in_ok-found.found c.in_ok-found.ensures
+returns c = preempts (core_of c.args.self.now) c.requires.core (subst IsSound c.table.ensures c.is_sound.ensures) c.preempted.new.allotment c.in_ok-found.found c.in_ok-found.ensures

@@ -1,5 +1,5 @@
 use Rattle.std.proofs.Common.{◌≡◌, sym, subst}
-use Rattle.written_roles.specs.MasterRoles.{master_resynced}
+use Rattle.spec_roles.specs.MasterRoles.{master_resynced}
 use Rattle.fuxi_master.specs.Cores.{CoreRecord, IsCore, IsWithin, StandsFor}
 use Rattle.fuxi_master.specs.Seen.{core_of}
 use Rattle.fuxi_master.proofs.ResyncsLemmas.{forgotten, core_forgotten, within_forgotten, stands_forgotten}

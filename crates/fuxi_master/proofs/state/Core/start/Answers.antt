@@ -1,6 +1,6 @@
 use Rattle.std.proofs.Common.{sym, ◌∙◌, subst}
 use Rattle.failover.specs.Reported.{Reported}
-use Rattle.written_roles.specs.MasterRoles.{master_started}
+use Rattle.spec_roles.specs.MasterRoles.{master_started}
 use Rattle.fuxi_master.specs.Cores.{IsCore, IsWithin, StandsFor}
 use Rattle.fuxi_master.proofs.StartedSides.{AreDownsStarted}
 use Rattle.fuxi_master.proofs.Started.{no_jobs_first, first_core, started_alike, started_core, started_within}

@@ -26,22 +26,22 @@ returns-then-not-found c =
     let found : Preempts false x y = subst (λ b. Preempts b x y) off c.in_ok-found.ensures in
     stays Preempt c.args.steps x y (Refused NothingToPreempt) c.requires.core c.requires.within found.0 (λ r h. preempt_nothing x on r h (found.1 r h)) tt
 
-pub finished-requires-clause-mid : goal.finished-requires-clause-mid
-finished-requires-clause-mid c =
+pub end_step-requires-clause-mid : goal.end_step-requires-clause-mid
+end_step-requires-clause-mid c =
     let x = core_of c.args.self.now in
     let y = core_of c.preempt.new.self in
     let made : Preempts true x y = subst (λ b. Preempts b x y) c.if-not-found.false c.in_ok-found.ensures in
     (made c.news-news.result c.news-news.ensures).mid
 
-pub finished-requires-clause-role : goal.finished-requires-clause-role
-finished-requires-clause-role c =
+pub end_step-requires-clause-role : goal.end_step-requires-clause-role
+end_step-requires-clause-role c =
     let x = core_of c.args.self.now in
     let y = core_of c.preempt.new.self in
     let made : Preempts true x y = subst (λ b. Preempts b x y) c.if-not-found.false c.in_ok-found.ensures in
     has_room c.news-news.result x y c.requires.core (made c.news-news.result c.news-news.ensures)
 
-pub finished-requires-clause-within : goal.finished-requires-clause-within
-finished-requires-clause-within c =
+pub end_step-requires-clause-within : goal.end_step-requires-clause-within
+end_step-requires-clause-within c =
     let x = core_of c.args.self.now in
     let y = core_of c.preempt.new.self in
     let made : Preempts true x y = subst (λ b. Preempts b x y) c.if-not-found.false c.in_ok-found.ensures in
@@ -54,8 +54,8 @@ returns c =
     let on = c.if-not-self.false in
     let made : Preempts true x y = subst (λ b. Preempts b x y) c.if-not-found.false c.in_ok-found.ensures in
     record {
-      core = c.in_ok-finished.ensures.core;
-      within = c.in_ok-finished.ensures.within;
-      answers = room_made x y (core_of c.finished.new.self) c.news-news.result on c.news-news.ensures (made c.news-news.result c.news-news.ensures) c.in_ok-finished.ensures.ends;
+      core = c.in_ok-end_step.ensures.core;
+      within = c.in_ok-end_step.ensures.within;
+      answers = room_made x y (core_of c.end_step.new.self) c.news-news.result on c.news-news.ensures (made c.news-news.result c.news-news.ensures) c.in_ok-end_step.ensures.ends;
       formed = tt;
     }

@@ -23,7 +23,7 @@ pub returns-clause-changes : goal.returns-clause-changes
 returns-clause-changes c =
     let x = core_of c.args.self.now in
     let at = slot_at x c.requires.near.kept c.args.app.0 c.requires.known c.index.result.now (Some c.in-Some.side) c.index.ensures c.in-Some.is in
-    let sound = subst IsSound c.table.ensures c.cluster-sound.ensures.sound in
+    let sound = subst IsSound c.table.ensures c.is_sound.ensures in
     demand_changes x c.requires.near sound c.args.app.0 c.args.fresh c.args.taken c.counts-live.result c.in-Some.side at c.requires.boots c.requires.known c.requires.told c.demanded.new.allotment c.in_ok-credited.credited.items c.in_ok-credited.ensures c.counts-live.ensures
     (record { reported = None; admitted = None; machines = c.new.result; job = Some c.args.app; credited = c.in_ok-credited.credited })
     (record { reported_is = refl; admitted_is = refl; job_is = refl; machines_are = c.new.ensures.items; credited_is = refl })

@@ -1,7 +1,7 @@
 use Rattle.std.proofs.Common.{◌≡◌, ◌++◌, true, [], map, sym, ◌∙◌, ap, subst, arith}
 use Rattle.schedule_unit.specs.declared.party.Role.{Role}
-use Rattle.written_net.specs.Channels.{agent_id, app_id}
-use Rattle.core_side.specs.Parcels.{id_of, parcel_is}
+use Rattle.spec_net.specs.Channels.{agent_id, app_id}
+use Rattle.peer_channel.specs.Parcels.{id_of, parcel_is}
 use Rattle.fuxi_master.specs.Seen.{core_of}
 use Rattle.fuxi_master.specs.Steps.{is_peer}
 use Rattle.fuxi_master.proofs.TurnPackets.{sent_to, agent_sent, app_sent}

@@ -11,6 +11,6 @@ pub returns-clause-changes : goal.returns-clause-changes
 returns-clause-changes c =
     let x = core_of c.args.self.now in
     let m = c.args.machine.0 in
-    let z = c.opened.new.allotment in
+    let z = c.open_machine.new.allotment in
     subst (λ (k : Knowledge). Changes c.news.result (changed_by (λ M. unbanned_in M m)) x (record x { known = k; allotment = z })) (sym c.unban.ensures)
-    (unbanned x c.requires.core (subst IsSound c.table.ensures c.cluster-sound.ensures.sound) c.news.result c.news.ensures m z c.opened.ensures)
+    (unbanned x c.requires.core (subst IsSound c.table.ensures c.is_sound.ensures) c.news.result c.news.ensures m z c.open_machine.ensures)

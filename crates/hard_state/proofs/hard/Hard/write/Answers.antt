@@ -1,8 +1,8 @@
 use Rattle.std.proofs.Common.{◌≡◌, ◌+◌, length, Ok, Err, ◌∙◌, ap, rules, arith}
 use Rattle.fuxi_io.specs.declared.outside.Failed.{Failed}
 use Rattle.fuxi_io.specs.Disks.{WhereTold}
-use Rattle.written_roles.specs.HardState.{hard_after}
-use Rattle.hard_records.specs.RecordBodies.{body_of}
+use Rattle.spec_roles.specs.HardState.{hard_after}
+use Rattle.hard_state.specs.RecordBodies.{body_of}
 use Rattle.hard_state.specs.declared.fault.HardFault.{HardFault}
 use Rattle.hard_state.specs.declared.fault.HardFault.TheVariants.{DiskFault, OutOfMemory}
 use Rattle.hard_state.specs.Gates.{Appends, appending_calls}

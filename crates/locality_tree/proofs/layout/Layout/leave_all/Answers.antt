@@ -1,42 +1,71 @@
-use Rattle.std.proofs.Common.{◌≡◌, ◌-◌, ℕ, Option, Some, None, cond, get_or, set, sym, subst, ap, ◌∙◌}
-use Rattle.slot_pool.specs.declared.pool.Slot.{Slot}
-use Rattle.locality_tree.specs.declared.layout.UnitPlaces.{UnitPlaces}
-use Rattle.locality_tree.specs.PlaceSets.{in_set}
-use Rattle.locality_tree.specs.Layouts.{unit_in, number_of}
-use Rattle.locality_tree.proofs.ChangesLemmas.{listed_unit, in_queue, leaves_none, leaves_some}
+use Rattle.std.proofs.Common.{◌≡◌, ◌<◌, ℕ, false, List, [], length, set, get_or, sym, subst, arith}
+use Rattle.slot_pool.specs.Pools.{PoolRecord, value_at}
+use Rattle.wait_queue.specs.declared.node.Entry.{Entry}
+use Rattle.wait_queue.specs.declared.node.Node.{Node}
+use Rattle.wait_queue.specs.declared.queue.Queue.{Queue}
+use Rattle.locality_tree.specs.declared.layout.Layout.{Layout}
+use Rattle.locality_tree.specs.declared.layout.UnitSlots.{UnitSlots}
+use Rattle.locality_tree.specs.declared.place_set.PlaceSet.{PlaceSet}
+use Rattle.locality_tree.specs.PlaceSets.{in_set, no_set}
+use Rattle.locality_tree.specs.Layouts.{Places, numbers_of, sets_of, slots_seen, slots_of, number_of, AreKept, AreKeptIn, EntryFitsIn, Left, MayLeave, AreWithout, HasLeft}
+use Rattle.locality_tree.proofs.NumbersLemmas.{fits_number}
+use Rattle.locality_tree.proofs.UnitsLemmas.{unit_listed, numbers_at, set_at, rows_stay, emptied}
 use Rattle.locality_tree.proofs.layout.Layout.leave_all.Goals as goal
 
-pub remove-requires : goal.remove-requires
-remove-requires c =
-    let p = c.args.self.now in
-    let n : ℕ = number_of c.args.entry.now in
-    let unit = c.index_mut-unit.result.now in
-    let same : unit ≡ unit_in p.units.items n = listed_unit p.units.items n unit c.requires.unit (subst (λ (k : ℕ). unit ≡ get_or p.units.items k unit) c.number_of.ensures c.index_mut-unit.ensures.value) in
-    (in_queue p c.requires.laid n c.in-Some.slot (ap (λ (u : UnitPlaces). u.slot) (sym same) ∙ c.in-Some.is)).0
+module _ (l : Layout) (e : Entry) (kept : AreKeptIn l) (queued : 0 < length l.queues.items) (fits : (place : ℕ) → place < length l.queues.items → EntryFitsIn l e place) (n : ℕ) (same : n ≡ number_of e) where
+  listed : n < length l.slots.items
+  listed = subst (λ (m : ℕ). m < length l.slots.items) (sym same) (unit_listed l.slots.items (number_of e) 0 (fits_number l e 0 (fits 0 queued)))
 
-pub returns-in-Some : goal.returns-in-Some
-returns-in-Some c =
-    let p = c.args.self.now in
-    let n : ℕ = number_of c.args.entry.now in
-    let units = p.units.items in
-    let unit = c.index_mut-unit.result.now in
-    let same : unit ≡ unit_in units n = listed_unit units n unit c.requires.unit (subst (λ (k : ℕ). unit ≡ get_or units k unit) c.number_of.ensures c.index_mut-unit.ensures.value) in
-    let noted : (unit_in units n).slot ≡ Some c.in-Some.slot = ap (λ (u : UnitPlaces). u.slot) (sym same) ∙ c.in-Some.is in
-    let q = in_queue p c.requires.laid n c.in-Some.slot noted in
-    leaves_some p c.requires.laid n c.requires.unit c.new-unit.result c.new-unit.ensures _ c.uncount.new.counts c.uncount.ensures.len
-    (λ k h. c.uncount.ensures.less k h ∙ ap (λ (u : UnitPlaces). get_or p.counts.items k 0 - cond (in_set u.places k) 1 0) same)
-    (ap (λ (k : ℕ). set units k (record { slot = None; admitted = unit.admitted; places = c.new-unit.result })) c.number_of.ensures ∙ ap (λ (u : UnitPlaces). set units n (record { slot = None; admitted = u.admitted; places = c.new-unit.result })) same)
-    c.standing_lists.ensures.entries c.standing_lists.ensures.distinct c.in-Some.slot noted q.0 q.1 c.remove.new.pool c.remove.new.self (c.remove.ensures.removed q.0.front q.0.back q.0.entry q.0.stands) c.remove.ensures.spare
+  -- the unit as one of the layout's
+  module _ (unit : UnitSlots) (is : unit ≡ get_or l.slots.items n unit) where
+    abbrev may : MayLeave l.pool l.queues.items unit
+    may = record {
+      rows = numbers_of l.slots.items;
+      sets = sets_of l.slots.items;
+      entry = e;
+      numbers = subst (λ (m : ℕ). get_or (numbers_of l.slots.items) m [] ≡ unit.numbers.items) same (numbers_at l.slots.items n unit listed is);
+      places = subst (λ (m : ℕ). get_or (sets_of l.slots.items) m no_set ≡ unit.places) same (set_at l.slots.items n unit listed is);
+      kept = kept;
+      fits = fits;
+    }
 
-pub returns-in_default : goal.returns-in_default
-returns-in_default c =
-    let p = c.args.self.now in
-    let n : ℕ = number_of c.args.entry.now in
-    let units = p.units.items in
-    let unit = c.index_mut-unit.result.now in
-    let same : unit ≡ unit_in units n = listed_unit units n unit c.requires.unit (subst (λ (k : ℕ). unit ≡ get_or units k unit) c.number_of.ensures c.index_mut-unit.ensures.value) in
-    leaves_none p c.requires.laid n c.requires.unit c.new-unit.result c.new-unit.ensures _ c.uncount.new.counts c.uncount.ensures.len
-    (λ k h. c.uncount.ensures.less k h ∙ ap (λ (u : UnitPlaces). get_or p.counts.items k 0 - cond (in_set u.places k) 1 0) same)
-    (ap (λ (k : ℕ). set units k (record { slot = unit.slot; admitted = unit.admitted; places = c.new-unit.result })) c.number_of.ensures ∙ ap (λ (u : UnitPlaces). set units n (record { slot = u.slot; admitted = u.admitted; places = c.new-unit.result })) same
-    ∙ ap (λ (o : Option Slot). set units n (record { slot = o; admitted = (unit_in units n).admitted; places = c.new-unit.result })) (ap (λ (u : UnitPlaces). u.slot) (sym same) ∙ c.in_default.is))
-    (ap (λ (u : UnitPlaces). u.slot) (sym same) ∙ c.in_default.is)
+    module _ (pool : PoolRecord Node) (queues : List Queue) (after : UnitSlots) (told : (sets : List PlaceSet) → AreWithout (sets_of l.slots.items) sets (number_of e) → HasLeft l.pool pool l.queues.items queues unit may sets (length l.queues.items)) (numbers : after.numbers.items ≡ unit.numbers.items) (none : (k : ℕ) → in_set after.places k ≡ false) where
+      abbrev sets_now : List PlaceSet
+      sets_now = sets_of (set l.slots.items n after)
+
+      abbrev rows_now : Places ℕ
+      rows_now = numbers_of (set l.slots.items n after)
+
+      has_left : HasLeft l.pool pool l.queues.items queues unit may sets_now (length l.queues.items)
+      has_left = told sets_now (subst (λ (m : ℕ). AreWithout (sets_of l.slots.items) sets_now m) same (emptied l.slots.items n unit after listed none))
+
+      kept_now : AreKept (value_at pool) pool.spare queues (slots_seen pool sets_now rows_now) sets_now
+      kept_now = subst (λ (rows : Places ℕ). AreKept (value_at pool) pool.spare queues (slots_seen pool sets_now rows) sets_now) (sym (rows_stay l.slots.items n unit after listed is numbers)) has_left.kept
+
+      left_now : Left (value_at l.pool) (slots_of l) (value_at pool) (slots_seen pool sets_now rows_now) e (length l.queues.items)
+      left_now = subst (λ (rows : Places ℕ). Left (value_at l.pool) (slots_of l) (value_at pool) (slots_seen pool sets_now rows) e (length l.queues.items)) (sym (rows_stay l.slots.items n unit after listed is numbers)) has_left.left
+
+pub index_mut-unit-requires : goal.index_mut-unit-requires
+index_mut-unit-requires c =
+    let l = c.args.self.now in
+    let within = listed l c.args.entry.now c.requires.kept c.requires.queued c.requires.fits c.number_of.result c.number_of.ensures in
+    let long = l.slots.ok in
+    omega (arith, within, long)
+
+pub leave_places-requires : goal.leave_places-requires
+leave_places-requires c = may c.args.self.now c.args.entry.now c.requires.kept c.requires.queued c.requires.fits c.number_of.result c.number_of.ensures c.index_mut-unit.result.now c.index_mut-unit.ensures.value
+
+pub returns-clause-kept : goal.returns-clause-kept
+returns-clause-kept c =
+    kept_now c.args.self.now c.args.entry.now c.requires.kept c.requires.queued c.requires.fits c.number_of.result c.number_of.ensures c.index_mut-unit.result.now c.index_mut-unit.ensures.value c.leave_places.new.pool c.leave_places.new.queues.items c.leave_places.new.unit
+    (c.leave_places.ensures.left (may c.args.self.now c.args.entry.now c.requires.kept c.requires.queued c.requires.fits c.number_of.result c.number_of.ensures c.index_mut-unit.result.now c.index_mut-unit.ensures.value)) c.leave_places.ensures.numbers c.leave_places.ensures.none
+
+pub returns-clause-count : goal.returns-clause-count
+returns-clause-count c =
+    (has_left c.args.self.now c.args.entry.now c.requires.kept c.requires.queued c.requires.fits c.number_of.result c.number_of.ensures c.index_mut-unit.result.now c.index_mut-unit.ensures.value c.leave_places.new.pool c.leave_places.new.queues.items c.leave_places.new.unit
+    (c.leave_places.ensures.left (may c.args.self.now c.args.entry.now c.requires.kept c.requires.queued c.requires.fits c.number_of.result c.number_of.ensures c.index_mut-unit.result.now c.index_mut-unit.ensures.value)) c.leave_places.ensures.numbers c.leave_places.ensures.none).count
+
+pub returns-clause-left : goal.returns-clause-left
+returns-clause-left c =
+    left_now c.args.self.now c.args.entry.now c.requires.kept c.requires.queued c.requires.fits c.number_of.result c.number_of.ensures c.index_mut-unit.result.now c.index_mut-unit.ensures.value c.leave_places.new.pool c.leave_places.new.queues.items c.leave_places.new.unit
+    (c.leave_places.ensures.left (may c.args.self.now c.args.entry.now c.requires.kept c.requires.queued c.requires.fits c.number_of.result c.number_of.ensures c.index_mut-unit.result.now c.index_mut-unit.ensures.value)) c.leave_places.ensures.numbers c.leave_places.ensures.none

@@ -1,14 +1,25 @@
-use Rattle.std.proofs.Common.{ℕ, List, [], sym, subst, rules}
-use Rattle.slot_pool.specs.Pools.{value_at}
-use Rattle.locality_tree.specs.declared.layout.UnitPlaces.{UnitPlaces}
-use Rattle.locality_tree.specs.Layouts.{AreLaidOut}
-use Rattle.locality_tree.proofs.AdmitsLemmas.{laid_empty}
+use Rattle.std.proofs.Common.{◌≡◌, ◌≤◌, ◌-◌, ℕ, List, [], replicate, refl, sym, ap, subst, ◌∙◌, arith}
+use Rattle.slot_pool.specs.Pools.{PoolRecord, value_at}
+use Rattle.wait_queue.specs.declared.node.Node.{Node}
+use Rattle.locality_tree.specs.declared.layout.UnitSlots.{UnitSlots}
+use Rattle.locality_tree.specs.Trees.{all_units}
+use Rattle.locality_tree.specs.PlaceSets.{is_marked}
+use Rattle.locality_tree.specs.Layouts.{slots_seen, numbers_of, sets_of}
+use Rattle.locality_tree.proofs.NumbersLemmas.{seen_empty}
+use Rattle.locality_tree.proofs.PlaceSetsLemmas.{none_set}
+use Rattle.locality_tree.proofs.VacantLemmas.{kept_empty}
 use Rattle.locality_tree.proofs.layout.Layout.start.Goals as goal
 
-pub returns-clause-laid : goal.returns-clause-laid
-returns-clause-laid c =
+none_seen : (pool : PoolRecord Node) (units : List UnitSlots) → units ≡ [] → slots_seen pool (sets_of units) (numbers_of units) ≡ replicate all_units []
+none_seen pool units none = ap (λ (us : List UnitSlots). slots_seen pool (sets_of us) (numbers_of us)) none ∙ seen_empty pool [] (all_units - 0) ∙ ap (λ (k : ℕ). replicate k []) (let all : all_units - 0 ≡ all_units = omega arith in all)
+
+pub returns-clause-slots : goal.returns-clause-slots
+returns-clause-slots c = none_seen c.in_ok-with_room.field-0 c.new.result.items c.new.ensures.items
+
+pub returns-clause-kept : goal.returns-clause-kept
+returns-clause-kept c =
     let pool = c.in_ok-with_room.field-0 in
-    let same = c.in_ok-from_elem.ensures.items_if_clones_equal (λ y e. search rules) in
-    subst (λ (units : List UnitPlaces). AreLaidOut (value_at pool) pool.spare c.new.result units c.in_ok-from_elem.field-0.items) (sym c.new-2.ensures.items)
-    (subst (λ (counts : List ℕ). AreLaidOut (value_at pool) pool.spare c.new.result [] counts) (sym same)
-    (laid_empty (value_at pool) pool.spare c.new.result c.args.places (c.new.ensures (value_at pool)) c.requires))
+    let units = c.new.result.items in
+    let count = c.in_ok-empty_queues.ensures.count in
+    kept_empty (value_at pool) pool.spare c.in_ok-empty_queues.field-0.items (slots_seen pool (sets_of units) (numbers_of units)) (sets_of units) all_units (none_seen pool units c.new.ensures.items) c.in_ok-empty_queues.ensures.empty (subst (λ (k : ℕ). k ≤ 384) (sym count) c.requires)
+    (λ n place. ap (λ (us : List UnitSlots). is_marked (sets_of us) n place) c.new.ensures.items ∙ none_set [] 0 place refl)

@@ -1,39 +1,36 @@
-use Rattle.std.proofs.Common.{◌≡◌, ◌≢◌, ℕ, nat_lt, false, List, Option, None, IsSome, IfSome, get_or, sym, subst, ◌∙◌, arith}
-use Rattle.std.proofs.lemmas.Bool.Decides.{nat_tests}
-use Rattle.std.proofs.lemmas.List.{get_or_read}
-use Rattle.slot_pool.specs.declared.pool.Slot.{Slot}
+use Rattle.std.proofs.Common.{◌≡◌, ◌<◌, ◌-◌, ℕ, List, length, subst, sym, arith}
 use Rattle.slot_pool.specs.Pools.{value_at}
-use Rattle.wait_queue.specs.declared.node.Entry.{Entry}
-use Rattle.wait_queue.specs.Queues.{first_of}
-use Rattle.locality_tree.specs.declared.layout.UnitPlaces.{UnitPlaces}
-use Rattle.locality_tree.specs.Paths.{IsRanking, with_levels, level_in, has_level}
-use Rattle.locality_tree.proofs.ChangesLemmas.{count_none}
-use Rattle.locality_tree.proofs.PathsLemmas.{starts, level_none, heads_at, first_live}
+use Rattle.locality_tree.specs.declared.layout.UnitSlots.{UnitSlots}
+use Rattle.locality_tree.specs.Layouts.{slots_of, sets_of}
+use Rattle.locality_tree.specs.Paths.{IsRanking, pairs_of}
+use Rattle.locality_tree.proofs.PathsLemmas.{whole_tail, leads_whole}
 use Rattle.locality_tree.proofs.path.Path.at.Goals as goal
 
-pub priority_at-requires : goal.priority_at-requires
-priority_at-requires c =
+pub skip-at_rack-requires-clause-from : goal.skip-at_rack-requires-clause-from
+skip-at_rack-requires-clause-from c =
     let l = c.args.layout.now in
-    let laid = c.requires.laid in
-    subst (λ (o : Option Slot). IfSome o (λ s. IsSome (value_at l.pool s))) (sym (c.first-first.ensures (value_at l.pool) laid.items laid.queued.stands)) (first_live c.standing_lists.ensures.entries (value_at l.pool) l.queue laid.items laid.queued.stands)
+    record { tail = c.requires.kept.lists c.args.rack_place; is_tail = whole_tail (value_at l.pool) l.pool.spare l.queues.items (slots_of l) (sets_of l.slots.items) c.args.rack_place c.index-rack.result.now c.first-first_rack.result c.requires.kept c.index-rack.ensures c.requires.rack (c.first-first_rack.ensures (value_at l.pool)) }
+
+pub skip-at_cluster-requires-clause-from : goal.skip-at_cluster-requires-clause-from
+skip-at_cluster-requires-clause-from c =
+    let l = c.args.layout.now in
+    let near = c.requires.near in
+    let queued : c.len-last.result - 1 < length l.queues.items = omega arith in
+    record { tail = c.requires.kept.lists (c.len-last.result - 1); is_tail = whole_tail (value_at l.pool) l.pool.spare l.queues.items (slots_of l) (sets_of l.slots.items) (c.len-last.result - 1) c.index-cluster.result.now c.first-first_cluster.result c.requires.kept c.index-cluster.ensures queued (c.first-first_cluster.ensures (value_at l.pool)) }
 
 pub returns : goal.returns
-returns c = λ laid pairs ranking.
+returns c = λ kept pairs ranking.
     let l = c.args.layout.now in
-    let first : c.first-first.result ≡ first_of laid.items None = c.first-first.ensures (value_at l.pool) laid.items laid.queued.stands in
-    let near_count = get_or_read l.counts.items c.args.near_place c.index.result.now c.requires.near c.index.ensures 0 in
-    let rack_count = get_or_read l.counts.items c.args.rack_place c.index-2.result.now c.requires.rack c.index-2.ensures 0 in
-    let narrow = laid.narrow in
     let near = c.requires.near in
+    let last : c.len-last.result - 1 ≡ length l.queues.items - 1 = omega arith in
+    let queued : c.len-last.result - 1 < length l.queues.items = omega arith in
+    let few = kept.few in
     let rack = c.requires.rack in
-    let none = level_none l.units.items c.args.near_place c.args.rack_place (nat_lt 0 c.index.result.now) (nat_lt 0 c.index-2.result.now)
-    (λ e. count_none l laid c.args.near_place near (zero_of c.index.result.now (get_or l.counts.items c.args.near_place 0) near_count e))
-    (λ e. count_none l laid c.args.rack_place rack (zero_of c.index-2.result.now (get_or l.counts.items c.args.rack_place 0) rack_count e)) in
-    starts _ pairs laid.items laid.queued.stands laid.queued.numbers first first
-    (heads_at c.standing_lists.ensures.entries (value_at l.pool) l.queue laid.items laid.queued.stands c.priority_at.result (λ s e h g. c.priority_at.ensures s e (first ∙ h) g))
-    (omega (arith, near, narrow)) (omega (arith, rack, narrow)) c.level_from.ensures.most (λ k _ h. c.level_from.ensures.none k (omega arith) h)
-    (subst (λ (us : List UnitPlaces). (k : ℕ) → has_level (nat_lt 0 c.index.result.now) (nat_lt 0 c.index-2.result.now) k ≡ false → (e : Entry) → level_in us c.args.near_place c.args.rack_place e ≢ k) (sym c.deref.ensures.value) none)
-    (subst (λ (us : List UnitPlaces). IsRanking pairs (with_levels (level_in us c.args.near_place c.args.rack_place) laid.items)) (sym c.deref.ensures.value) ranking)
-  where
-    zero_of : (n count : ℕ) → n ≡ count → nat_lt 0 n ≡ false → count ≡ 0
-    zero_of n count same e = let none : n ≡ 0 = grind (arith, nat_tests, e) in omega (arith, same, none)
+    let rack_tail = whole_tail (value_at l.pool) l.pool.spare l.queues.items (slots_of l) (sets_of l.slots.items) c.args.rack_place c.index-rack.result.now c.first-first_rack.result kept c.index-rack.ensures c.requires.rack (c.first-first_rack.ensures (value_at l.pool)) in
+    let cluster_tail = whole_tail (value_at l.pool) l.pool.spare l.queues.items (slots_of l) (sets_of l.slots.items) (c.len-last.result - 1) c.index-cluster.result.now c.first-first_cluster.result kept c.index-cluster.ensures queued (c.first-first_cluster.ensures (value_at l.pool)) in
+    leads_whole _ pairs (kept.lists c.args.near_place) (kept.lists c.args.rack_place) (kept.lists (c.len-last.result - 1)) (omega (arith, near, few)) (omega (arith, rack, few))
+    (whole_tail (value_at l.pool) l.pool.spare l.queues.items (slots_of l) (sets_of l.slots.items) c.args.near_place c.index-near.result.now c.first-at_near.result kept c.index-near.ensures near (c.first-at_near.ensures (value_at l.pool)))
+    (c.skip-at_rack.ensures (kept.lists c.args.rack_place) rack_tail)
+    (c.skip-at_cluster.ensures (kept.lists (c.len-last.result - 1)) cluster_tail)
+    (subst (λ (us : List UnitSlots). IsRanking pairs (pairs_of (sets_of us) c.args.near_place c.args.rack_place (kept.lists c.args.near_place) (kept.lists c.args.rack_place) (kept.lists (c.len-last.result - 1)))) (sym c.deref-units.ensures.value)
+    (subst (λ (n : ℕ). IsRanking pairs (pairs_of (sets_of l.slots.items) c.args.near_place c.args.rack_place (kept.lists c.args.near_place) (kept.lists c.args.rack_place) (kept.lists n))) (sym last) ranking))

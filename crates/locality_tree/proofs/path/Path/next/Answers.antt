@@ -1,32 +1,62 @@
-use Rattle.std.proofs.Common.{List, Some, None, sym, subst, refl}
-use Rattle.wait_queue.specs.declared.node.Entry.{Entry}
-use Rattle.locality_tree.specs.declared.path.Look.TheVariants.{Gives as LookGives, Ends}
-use Rattle.locality_tree.specs.declared.path.Path.{Path}
-use Rattle.locality_tree.specs.Trees.{RankedEntry}
-use Rattle.locality_tree.specs.Paths.{Leads, Looks, Gives, IsWalkable}
+use Rattle.std.proofs.Common.{sym, ◌∙◌}
+use Rattle.locality_tree.proofs.PathsLemmas.{live_of, in_of, tail_behind, near_step, rack_step, cluster_step, end_step, goes_on}
 use Rattle.locality_tree.proofs.path.Path.next.Goals as goal
 
-given : (old new : Path) (pairs : List RankedEntry) (e : Entry) → Looks old new pairs (LookGives e) → Gives pairs (Some (e, new.level)) (Leads new)
-given old new pairs e h = subst (λ (x : List RankedEntry). Gives x (Some (e, new.level)) (Leads new)) (sym h.1) (refl, h.2)
+pub priority_at-near-requires : goal.priority_at-near-requires
+priority_at-near-requires c = live_of c.standing_lists.ensures.entries _ _ _ _ c.requires.leads.at_near
 
-given_on : (old new : Path) (pairs : List RankedEntry) (e : Entry) → Looks old new pairs (LookGives e) → IsWalkable new
-given_on old new pairs e h = record { pairs = h.0; leads = h.2 }
+pub priority_at-rack-requires : goal.priority_at-rack-requires
+priority_at-rack-requires c = live_of c.standing_lists.ensures.entries _ _ _ _ c.requires.leads.at_rack
 
-ended : (old new : Path) (pairs : List RankedEntry) → Looks old new pairs Ends → Gives pairs None (Leads new)
-ended old new pairs h = subst (λ (x : List RankedEntry). Gives x None (Leads new)) (sym h.0) (refl, h.1)
+pub priority_at-cluster-requires : goal.priority_at-cluster-requires
+priority_at-cluster-requires c = live_of c.standing_lists.ensures.entries _ _ _ _ c.requires.leads.at_cluster
 
-pub returns-in-Gives-clause-gives : goal.returns-in-Gives-clause-gives
-returns-in-Gives-clause-gives c = λ pairs leads. given c.loop-entry.self c.look.new.self pairs c.in-Gives.entry (subst (Looks c.loop-entry.self c.look.new.self pairs) c.in-Gives.is (c.look.ensures pairs (c.loop-entry.invariant.leads pairs leads)))
+pub take-behind-requires : goal.take-behind-requires
+take-behind-requires c = in_of c.standing_lists.ensures.entries _ _ _ _ c.in-Some.slot c.requires.leads.at_near c.in-Some.is
 
-pub returns-in-Gives-clause-goes_on : goal.returns-in-Gives-clause-goes_on
-returns-in-Gives-clause-goes_on c =
-    let w = c.loop-entry.invariant.walkable in
-    given_on c.loop-entry.self c.look.new.self w.pairs c.in-Gives.entry (subst (Looks c.loop-entry.self c.look.new.self w.pairs) c.in-Gives.is (c.look.ensures w.pairs w.leads))
+pub returns-then-leads-clause-gives : goal.returns-then-leads-clause-gives
+returns-then-leads-clause-gives c = λ pairs leads.
+    near_step c.standing_lists.ensures.entries c.orders.ensures.parts c.args.self.now pairs leads c.in-Some.slot c.take-behind.result.0 c.take-behind.result.1 c.in-Some.is c.take-behind.ensures.entry c.take-behind.ensures.behind
+    (rw (← c.priority_at-near.ensures, ← c.priority_at-rack.ensures, ← c.priority_at-cluster.ensures) (sym c.leads.ensures ∙ c.if-leads.true))
 
-pub returns-in-Ends-clause-gives : goal.returns-in-Ends-clause-gives
-returns-in-Ends-clause-gives c = λ pairs leads. ended c.loop-entry.self c.look.new.self pairs (subst (Looks c.loop-entry.self c.look.new.self pairs) c.in-Ends.is (c.look.ensures pairs (c.loop-entry.invariant.leads pairs leads)))
+pub returns-then-leads-clause-goes_on : goal.returns-then-leads-clause-goes_on
+returns-then-leads-clause-goes_on c = goes_on _ c.requires.pairs _ (returns-then-leads-clause-gives c c.requires.pairs c.requires.leads)
 
-pub loop-entry-smaller : goal.loop-entry-smaller
-loop-entry-smaller c =
-    let w = c.loop-entry.invariant.walkable in
-    (subst (Looks c.loop-entry.self c.look.new.self w.pairs) c.in-Passes.is (c.look.ensures w.pairs w.leads)).1
+pub take-behind-requires-then-leads-2 : goal.take-behind-requires-then-leads-2
+take-behind-requires-then-leads-2 c = in_of c.standing_lists.ensures.entries _ _ _ _ c.in-Some-at_rack.slot c.requires.leads.at_rack c.in-Some-at_rack.is
+
+pub skip-self-requires-clause-from : goal.skip-self-requires-clause-from
+skip-self-requires-clause-from c = tail_behind c.standing_lists.ensures.entries _ _ _ _ c.in-Some-at_rack.slot _ c.requires.leads.at_rack c.in-Some-at_rack.is c.take-behind-then-leads-2.ensures.behind
+
+pub returns-then-leads-2-clause-gives : goal.returns-then-leads-2-clause-gives
+returns-then-leads-2-clause-gives c = λ pairs leads.
+    rack_step c.standing_lists.ensures.entries c.orders.ensures.parts c.args.self.now pairs leads c.in-Some-at_rack.slot c.take-behind-then-leads-2.result.0 c.take-behind-then-leads-2.result.1 c.skip-self.result c.in-Some-at_rack.is c.take-behind-then-leads-2.ensures.entry c.take-behind-then-leads-2.ensures.behind c.skip-self.ensures
+    (rw (← c.priority_at-near.ensures, ← c.priority_at-rack.ensures, ← c.priority_at-cluster.ensures) (sym c.leads.ensures ∙ c.if-leads.false))
+    (rw (← c.priority_at-rack.ensures, ← c.priority_at-cluster.ensures) (sym c.leads-2.ensures ∙ c.if-leads-2.true))
+
+pub returns-then-leads-2-clause-goes_on : goal.returns-then-leads-2-clause-goes_on
+returns-then-leads-2-clause-goes_on c = goes_on _ c.requires.pairs _ (returns-then-leads-2-clause-gives c c.requires.pairs c.requires.leads)
+
+pub returns-in-None-at_cluster-clause-gives : goal.returns-in-None-at_cluster-clause-gives
+returns-in-None-at_cluster-clause-gives c = λ pairs leads.
+    end_step c.standing_lists.ensures.entries c.orders.ensures.parts c.args.self.now pairs leads c.in-None-at_cluster.is
+    (rw (← c.priority_at-near.ensures, ← c.priority_at-rack.ensures, ← c.priority_at-cluster.ensures) (sym c.leads.ensures ∙ c.if-leads.false))
+    (rw (← c.priority_at-rack.ensures, ← c.priority_at-cluster.ensures) (sym c.leads-2.ensures ∙ c.if-leads-2.false))
+
+pub returns-in-None-at_cluster-clause-goes_on : goal.returns-in-None-at_cluster-clause-goes_on
+returns-in-None-at_cluster-clause-goes_on c = goes_on _ c.requires.pairs _ (returns-in-None-at_cluster-clause-gives c c.requires.pairs c.requires.leads)
+
+pub take-behind-requires-2 : goal.take-behind-requires-2
+take-behind-requires-2 c = in_of c.standing_lists.ensures.entries _ _ _ _ c.in-Some-at_cluster.slot c.requires.leads.at_cluster c.in-Some-at_cluster.is
+
+pub skip-self-requires-2-clause-from : goal.skip-self-requires-2-clause-from
+skip-self-requires-2-clause-from c = tail_behind c.standing_lists.ensures.entries _ _ _ _ c.in-Some-at_cluster.slot _ c.requires.leads.at_cluster c.in-Some-at_cluster.is c.take-behind-2.ensures.behind
+
+pub returns-clause-gives : goal.returns-clause-gives
+returns-clause-gives c = λ pairs leads.
+    cluster_step c.standing_lists.ensures.entries c.orders.ensures.parts c.args.self.now pairs leads c.in-Some-at_cluster.slot c.take-behind-2.result.0 c.take-behind-2.result.1 c.skip-self-2.result c.in-Some-at_cluster.is c.take-behind-2.ensures.entry c.take-behind-2.ensures.behind c.skip-self-2.ensures
+    (rw (← c.priority_at-near.ensures, ← c.priority_at-rack.ensures, ← c.priority_at-cluster.ensures) (sym c.leads.ensures ∙ c.if-leads.false))
+    (rw (← c.priority_at-rack.ensures, ← c.priority_at-cluster.ensures) (sym c.leads-2.ensures ∙ c.if-leads-2.false))
+
+pub returns-clause-goes_on : goal.returns-clause-goes_on
+returns-clause-goes_on c = goes_on _ c.requires.pairs _ (returns-clause-gives c c.requires.pairs c.requires.leads)

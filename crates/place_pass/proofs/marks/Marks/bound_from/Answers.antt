@@ -2,7 +2,7 @@ use Rattle.std.proofs.Common.{◌≡◌, List, sym, ◌∙◌, subst, arith, ◌
 use Rattle.std.specs.Option.{option_map}
 use Rattle.std.proofs.lemmas.Bool.Decides.{nat_tests}
 use Rattle.place_pass.specs.Bounds.{MarkRecord, rank_of, mark_at, bounded_mark}
-use Rattle.place_pass.specs.Sights.{IsRaised}
+use Rattle.place_pass.specs.Candidates.{IsRaised}
 use Rattle.place_pass.proofs.PassedMachines.{at_one, raised_or_same}
 use Rattle.place_pass.proofs.marks.Marks.bound_from.Goals as goal
 

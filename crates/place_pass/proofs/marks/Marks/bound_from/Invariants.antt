@@ -1,7 +1,7 @@
 use Rattle.std.proofs.Common.{◌≡◌, ℕ, ◌<◌, ◌≤◌, ◌⊎◌, length}
 use Rattle.std.specs.Option.{option_map}
 use Rattle.place_pass.specs.Bounds.{rank_of, mark_at, bounded_mark}
-use Rattle.place_pass.specs.Sights.{IsRaised}
+use Rattle.place_pass.specs.Candidates.{IsRaised}
 use Rattle.place_pass.proofs.marks.Marks.bound_from.Given as goal
 
 abbrev pub invariant-loop-machine : goal.invariant-loop-machine

@@ -7,7 +7,7 @@ use Rattle.place_pass.proofs.marks.Marks.consider.Goals as goal
 pub consider-requires-clause-old : goal.consider-requires-clause-old
 consider-requires-clause-old g c =
     let n = c.args.machine.0 in
-    subst (IsMarked c.args.scene.now n) (sym (lent_mark c.self.inside.marks.items c.args.self.now c.self.view_is n c.requires.there c.index_mut-mark.result.now c.index_mut-mark.ensures.value)) c.requires.old
+    subst (IsMarked c.args.input.now n) (sym (lent_mark c.self.inside.marks.items c.args.self.now c.self.view_is n c.requires.there c.index_mut-mark.result.now c.index_mut-mark.ensures.value)) c.requires.old
 
 pub invariant_of-self : goal.invariant_of-self
 invariant_of-self g c =
@@ -20,7 +20,7 @@ invariant_of-self g c =
 pub returns-clause-mark : goal.returns-clause-mark
 returns-clause-mark g c =
     let n = c.args.machine.0 in
-    subst (IsMarked c.args.scene.now n) (sym (written_here c.self.inside.marks.items c.args.self.now c.self.view_is n c.requires.there c.consider.new.mark)) c.consider.ensures.mark
+    subst (IsMarked c.args.input.now n) (sym (written_here c.self.inside.marks.items c.args.self.now c.self.view_is n c.requires.there c.consider.new.mark)) c.consider.ensures.mark
 
 pub returns-clause-others : goal.returns-clause-others
 returns-clause-others g c m other = written_mark c.self.inside.marks.items c.args.self.now c.self.view_is c.args.machine.0 c.requires.there c.consider.new.mark m ∙ ap (λ t. cond t (mark_of c.consider.new.mark) (mark_at c.args.self.now m)) other
@@ -28,4 +28,4 @@ returns-clause-others g c m other = written_mark c.self.inside.marks.items c.arg
 pub returns-clause-settled : goal.returns-clause-settled
 returns-clause-settled g c e =
     let n = c.args.machine.0 in
-    subst (IsSettledBy c.args.scene.now n) (sym (written_here c.self.inside.marks.items c.args.self.now c.self.view_is n c.requires.there c.consider.new.mark)) (c.consider.ensures.settled e)
+    subst (IsSettledBy c.args.input.now n) (sym (written_here c.self.inside.marks.items c.args.self.now c.self.view_is n c.requires.there c.consider.new.mark)) (c.consider.ensures.settled e)

@@ -3,7 +3,7 @@ use Rattle.std.specs.Prelude.{replicate}
 use Rattle.place_pass.specs.Bounds.{MarkRecord, mark_of, reset_mark}
 use Rattle.place_pass.specs.NotedMarks.{AreNoted, AreClearUnless}
 use Rattle.place_pass.proofs.NotedMarksLemmas.{noted_new, clear_new}
-use Rattle.place_pass.proofs.SightsLemmas.{marks_repeated}
+use Rattle.place_pass.proofs.CandidatesLemmas.{marks_repeated}
 use Rattle.place_pass.proofs.marks.Marks.new.Goals as goal
 
 pub invariant_of-result : goal.invariant_of-result

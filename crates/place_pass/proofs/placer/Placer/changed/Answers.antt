@@ -2,8 +2,8 @@ use Rattle.std.proofs.Common.{◌≡◌, ℕ, ◌+◌, ◌*◌, ◌<◌, List, [
 use Rattle.std.proofs.lemmas.List.{get_or_default, length-set}
 use Rattle.fuxi_terms.specs.Tables.{spot, held}
 use Rattle.fuxi_terms.specs.Keys.{Pair}
-use Rattle.written_roles.specs.Masters.{out_of}
-use Rattle.written_roles.specs.Placing.{has_pair}
+use Rattle.spec_roles.specs.Masters.{out_of}
+use Rattle.spec_roles.specs.Placing.{has_pair}
 use Rattle.place_pass.specs.Best.{AreAdmitted}
 use Rattle.place_pass.specs.Bounds.{IsRising, mark_at, turn_at, Rises, after_taking, is_nearer_in}
 use Rattle.place_pass.specs.Cells.{job_at, asks_in}
@@ -22,7 +22,7 @@ pub stir-requires : goal.stir-requires
 stir-requires c =
     let w = c.self.inside.wishes in
     let here = subst (λ (p : PlacerRecord). c.args.unit.0 < units_seen p.seen c.args.app.0) (sym c.self.view_is) c.requires.here in
-    (placed w.cluster w.cells w.opened c.cluster-wishes.ensures.sound c.args.app.0 c.args.unit.0 here).0
+    (placed w.cluster w.cells w.opened c.are_sound.ensures c.args.app.0 c.args.unit.0 here).0
 
 pub invariant_of-self : goal.invariant_of-self
 invariant_of-self c =
@@ -31,13 +31,10 @@ invariant_of-self c =
     let turns = c.self.inside.turn_of.items in
     let out = nat_lt 0 (out_of (asks_in w.cells) c.args.table.now.entries c.args.app.0 c.args.unit.0) in
     let is = c.leave_unit.ensures.pairs in
-    let room = c.self.invariant.room in
-    let same = c.leave_unit.ensures.room in
     record {
       admitted = subst (AreAdmitted w.cells) (sym is) (told_admitted line out c.args.app.0 c.args.unit.0 w.cells c.self.invariant.admitted);
       places = c.self.invariant.places;
-      counted = c.self.invariant.counted;
-      room = omega (arith, room, same);
+      units = λ a u lt. c.leave_unit.ensures.units (a, u) ∙ c.self.invariant.units a u lt;
       marked = c.tell.ensures.long ∙ c.self.invariant.marked;
       turn_places = c.self.invariant.turn_places;
       held_places = length-set c.self.inside.held.items c.slot-place.result c.held.result ∙ c.self.invariant.held_places;
@@ -53,7 +50,7 @@ returns-clause-tight c h =
     let n = c.self.invariant.marked in
     let old = c.self.inside.marks in
     stays_tight c.self.view_is (λ _. w.opened) (λ _. c.self.inside.turns) (λ m o t.
-    let l = open_there w.opened (length w.cluster.machines) c.cluster-wishes.ensures.sound.opened m o in
+    let l = open_there w.opened (length w.cluster.machines) c.are_sound.ensures.opened m o in
     subst (MarkStays c.self.inside.turns (m ≡ c.args.machine.0) (mark_at old m)) (sym (c.tell.ensures.marks m (omega (arith, l, n)))) (told_stays c.self.inside.turns _ c.args.table.now.cluster _ c.args.machine.0 _ m (mark_at old m) t)) h
 
 pub returns-clause-level : goal.returns-clause-level
@@ -66,13 +63,13 @@ returns-clause-level c before l is =
     let line_is = c.leave_unit.ensures.pairs in
     let old = subst (λ (p : PlacerRecord). IsLevelWith p before) (sym c.self.view_is) l in
     let here : c.args.unit.0 < length (get_or w.cells c.args.app.0 []) = subst (λ (p : PlacerRecord). c.args.unit.0 < units_seen p.seen c.args.app.0) (sym c.self.view_is) c.requires.here in
-    let small = placed w.cluster w.cells w.opened c.cluster-wishes.ensures.sound c.args.app.0 c.args.unit.0 here in
+    let small = placed w.cluster w.cells w.opened c.are_sound.ensures c.args.app.0 c.args.unit.0 here in
     let sa = small.0 in
     let su = small.1 in
     let long = c.self.invariant.held_places in
     let marked = c.self.invariant.marked in
     let now = level_set w.cluster (job_at w.cells) before t (spot c.args.app.0 c.args.unit.0 c.args.machine.0) is old.level in
-    let group = group_is w.cluster w.cells t now w.opened c.cluster-wishes.ensures.sound c.args.app.0 c.args.unit.0 here in
+    let group = group_is w.cluster w.cells t now w.opened c.are_sound.ensures c.args.app.0 c.args.unit.0 here in
     let within : c.args.app.0 * 8 + c.args.unit.0 < length c.self.inside.held.items = omega (arith, sa, su, long) in
     let was : c.index.result.now ≡ get_or c.self.inside.held.items (c.args.app.0 * 8 + c.args.unit.0) 0 = c.index.ensures ∙ ap (λ i. get_or c.self.inside.held.items i c.index.result.now) c.slot-place.ensures ∙ get_or_default c.self.inside.held.items (c.args.app.0 * 8 + c.args.unit.0) c.index.result.now 0 within in
     record {
@@ -86,7 +83,7 @@ returns-clause-level c before l is =
           (kept_told w.cells w.opened line c.leave_unit.new.line.pairs c.self.inside.turns (length w.cluster.machines) (record { marks = c.self.inside.marks; turn_of = c.self.inside.turn_of.items; held = c.self.inside.held.items }) c.tell.new.marks
           (λ p has. told_was line out c.args.app.0 c.args.unit.0 p (ap (has_pair p) (sym line_is) ∙ has))
           (subst (Rises (λ (p : Pair). turn_at c.self.inside.turn_of.items p.0 p.1)) (sym line_is) (told_rises line out c.args.app.0 c.args.unit.0 (λ (p : Pair). turn_at c.self.inside.turn_of.items p.0 p.1) (rising_all (λ (p : Pair). turn_at c.self.inside.turn_of.items p.0 p.1) line old.kept.rises)))
-          (open_there w.opened (length w.cluster.machines) c.cluster-wishes.ensures.sound.opened) before t c.args.app.0 c.args.unit.0 c.args.machine.0 is
+          (open_there w.opened (length w.cluster.machines) c.are_sound.ensures.opened) before t c.args.app.0 c.args.unit.0 c.args.machine.0 is
           sa su long (λ j lt. c.tell.ensures.marks j (omega (arith, lt, marked))
           ∙ (λ i. cond (nat_lt (held t.entries c.args.app.0 c.args.unit.0) (was i)) (after_taking t.cluster (group i) c.args.machine.0 (is_nearer_in (board_over w.cells w.opened t) t.entries (spot c.args.app.0 c.args.unit.0 c.args.machine.0)) j (mark_at c.self.inside.marks j)) (mark_at c.self.inside.marks j))) old.kept);
     }

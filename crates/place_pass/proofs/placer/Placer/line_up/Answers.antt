@@ -6,13 +6,13 @@ use Rattle.place_pass.proofs.LinedLemmas.{IsLinedUp, lined_is, lined_kept, front
 use Rattle.std.proofs.lemmas.Bool.Decides.{nat_tests}
 use Rattle.fuxi_terms.proofs.Booleans.{and_true, both_true}
 use Rattle.place_pass.proofs.SearchCountsLemmas.{same_stays, stays_tight}
-use Rattle.place_pass.proofs.SightsLemmas.{place_of}
+use Rattle.place_pass.proofs.CandidatesLemmas.{place_of}
 use Rattle.place_pass.proofs.NumberedLemmas.{filter_whole, none_joined, unit_small}
 use Rattle.fuxi_terms.specs.Cluster.{JobRecord}
 use Rattle.fuxi_terms.specs.Jobs.{unit_count, job_numbers}
 use Rattle.fuxi_terms.specs.Keys.{Pair}
-use Rattle.written_roles.specs.Masters.{out_of}
-use Rattle.written_roles.specs.Placing.{has_pair, lined, waiting_in}
+use Rattle.spec_roles.specs.Masters.{out_of}
+use Rattle.spec_roles.specs.Placing.{has_pair, lined, waiting_in}
 use Rattle.grant_table.specs.GrantTables.{as_known}
 use Rattle.place_pass.specs.Cells.{asks_in}
 use Rattle.place_pass.specs.WaitingLines.{same_pair}
@@ -36,8 +36,8 @@ pub join-requires-clause-level : goal.join-requires-clause-level
 unfolding IsLevelWith
 join-requires-clause-level c = (subst (λ (p : PlacerRecord). IsLevelWith p c.args.table.now) (sym c.self.view_is) c.requires.level).level
 
-pub join-requires-clause-room : goal.join-requires-clause-room
-join-requires-clause-room c = let room = c.self.invariant.room in let same = c.leave-begins.ensures.room in omega (arith, room, same)
+pub join-requires-clause-units : goal.join-requires-clause-units
+join-requires-clause-units c a u lt = c.leave-begins.ensures.units (a, u) ∙ c.self.invariant.units a u lt
 
 pub join-requires-clause-none : goal.join-requires-clause-none
 join-requires-clause-none c = c.leave-begins.ensures.none
@@ -62,7 +62,7 @@ lined_up c = record {
   waits = waiting_waits (map (λ (j : JobRecord). j.number) c.args.table.now.jobs) (unit_count (as_known c.args.table.now.jobs)) (asks_in c.self.inside.wishes.cells) c.args.table.now.entries;
   appended = c.join.ensures.pairs;
   long = c.len-stayed.ensures.number;
-  small = λ a u has. let place = place_of (a, u) c.self.inside.line.pairs has in unit_small c.self.inside.wishes.cells c.self.inside.line.pairs place.place (a, u) c.self.invariant.admitted place.at c.cluster-wishes.ensures.sound.few;
+  small = λ a u has. let place = place_of (a, u) c.self.inside.line.pairs has in unit_small c.self.inside.wishes.cells c.self.inside.line.pairs place.place (a, u) c.self.invariant.admitted place.at c.are_sound.ensures.few;
   others = λ a u lu out. c.number_from.ensures.others a u lu out;
 }
 
@@ -90,21 +90,17 @@ lined_then : (c : goal.After-self-2-1) → IsLinedUp c.self.inside.line.pairs c.
     (λ p. nat_lt 0 (out_of (asks_in c.self.inside.wishes.cells) c.args.table.now.entries p.0 p.1)) (record { marks = c.self.inside.marks; turn_of = c.self.inside.turn_of.items; held = c.self.inside.held.items }) c.number_from.new.turn_of.items
 lined_then c =
     let waits = waiting_waits (map (λ (j : JobRecord). j.number) c.args.table.now.jobs) (unit_count (as_known c.args.table.now.jobs)) (asks_in c.self.inside.wishes.cells) c.args.table.now.entries in
-    let small = λ (a u : ℕ) (has : has_pair (a, u) c.self.inside.line.pairs ≡ true). let place = place_of (a, u) c.self.inside.line.pairs has in unit_small c.self.inside.wishes.cells c.self.inside.line.pairs place.place (a, u) c.self.invariant.admitted place.at c.cluster-wishes.ensures.sound.few in
+    let small = λ (a u : ℕ) (has : has_pair (a, u) c.self.inside.line.pairs ≡ true). let place = place_of (a, u) c.self.inside.line.pairs has in unit_small c.self.inside.wishes.cells c.self.inside.line.pairs place.place (a, u) c.self.invariant.admitted place.at c.are_sound.ensures.few in
     record { kept = c.leave-begins.ensures.pairs; waits = waits; appended = c.join.ensures.pairs; long = c.len-stayed.ensures.number; small = small; others = λ a u lu out. c.number_from.ensures.others a u lu out }
 
 pub invariant_of-self : goal.invariant_of-self
 unfolding IsLevelWith
 invariant_of-self c =
     let old = subst (λ (p : PlacerRecord). IsLevelWith p c.args.table.now) (sym c.self.view_is) c.requires.level in
-    let room = c.self.invariant.room in
-    let same = c.leave-begins.ensures.room in
-    let more = c.join.ensures.room in
     record {
       admitted = c.join.ensures.admitted;
       places = c.self.invariant.places;
-      counted = c.self.invariant.counted;
-      room = omega (arith, room, same, more);
+      units = λ a u lt. c.join.ensures.units (a, u) ∙ c.leave-begins.ensures.units (a, u) ∙ c.self.invariant.units a u lt;
       marked = c.self.invariant.marked;
       turn_places = c.number_from.ensures.places;
       held_places = c.self.invariant.held_places;
@@ -121,7 +117,7 @@ line_is c =
     let line = c.self.inside.line.pairs in
     let r : Pair → Bool = λ p. not (has_pair p line) in
     let l = (subst (λ (p : PlacerRecord). IsLevelWith p t) (sym c.self.view_is) c.requires.level).level in
-    let is = c.admitted_jobs.ensures.numbers t.jobs c.cluster-cluster.ensures.sound.in_order in
+    let is = c.admitted_jobs.ensures.numbers t.jobs c.is_sound.ensures.in_order in
     let kept = c.leave-begins.ensures.pairs ∙ kept_is w.cluster w.cells t l (job_numbers (as_known t.jobs)) is line c.self.invariant.admitted in
     let joined = ap (λ ns. filter r (waiting_in ns (unit_count (as_known t.jobs)) (asks_in w.cells) t.entries)) (sym is) in
     lined_is (lined_then c) ∙ (λ i. kept i ++ joined i)
@@ -132,7 +128,7 @@ returns-clause-seen c =
     let t = c.args.table.now in
     let line = c.self.inside.line.pairs in
     let r : Pair → Bool = λ p. not (has_pair p line) in
-    let is = c.admitted_jobs.ensures.numbers t.jobs c.cluster-cluster.ensures.sound.in_order in
+    let is = c.admitted_jobs.ensures.numbers t.jobs c.is_sound.ensures.in_order in
     let all = waiting_in (map (λ (j : JobRecord). j.number) t.jobs) (unit_count (as_known t.jobs)) (asks_in w.cells) t.entries in
     let long = ap length (lined_is (lined_then c)) ∙ length-append c.leave-begins.new.line.pairs (filter r all) in
     let n = c.len.ensures.number in
@@ -146,7 +142,7 @@ pub returns-clause-turns : goal.returns-clause-turns
 returns-clause-turns c =
     let t = c.args.table.now in
     let s = c.args.self.now.seen in
-    let jobs = c.cluster-cluster.ensures.sound.in_order in
+    let jobs = c.is_sound.ensures.in_order in
     let few = few_begin t.jobs (asks_seen s) t.entries (λ p. not (has_pair p s.line)) jobs (c.admitted_jobs.ensures.numbers t.jobs jobs) in
     let turns = ap (λ (x : SeenRecord). x.turns) (returns-clause-seen c) in
     omega (arith, few, turns)
@@ -157,7 +153,7 @@ returns-clause-up c a u =
     let w = c.self.inside.wishes in
     let t = c.args.table.now in
     let l = (subst (λ (p : PlacerRecord). IsLevelWith p t) (sym c.self.view_is) c.requires.level).level in
-    let is = c.admitted_jobs.ensures.numbers t.jobs c.cluster-cluster.ensures.sound.in_order in
+    let is = c.admitted_jobs.ensures.numbers t.jobs c.is_sound.ensures.in_order in
     ap (has_pair (a, u)) (line_is c) ∙ lined_has w.cluster w.cells t l (job_numbers (as_known t.jobs)) is c.self.inside.line.pairs a u
 
 pub returns-clause-level : goal.returns-clause-level

@@ -10,12 +10,12 @@ use Rattle.place_pass.proofs.KeptLemmas.{forgotten_key, kept_forgotten, open_the
 use Rattle.std.proofs.lemmas.Bool.Decides.{nat_tests}
 use Rattle.fuxi_terms.specs.Cluster.{ClusterRecord}
 use Rattle.fuxi_terms.proofs.Booleans.{both_true}
-use Rattle.written_roles.specs.Masters.{out_of}
-use Rattle.written_roles.specs.Placing.{first_in}
+use Rattle.spec_roles.specs.Masters.{out_of}
+use Rattle.spec_roles.specs.Placing.{first_in}
 use Rattle.grant_table.specs.declared.asking.Pick.{Pick}
 use Rattle.place_pass.specs.Best.{spot_of}
 use Rattle.place_pass.specs.Bounds.{mark_at, Rises}
-use Rattle.place_pass.specs.Sights.{turn_in, AreBounded}
+use Rattle.place_pass.specs.Candidates.{turn_in, AreBounded}
 use Rattle.place_pass.specs.Cells.{asks_in}
 use Rattle.place_pass.specs.Placers.{AreAllowed, IsGrantable, PlacerRecord, KeptRecord, placer_record, IsLevelWith, IsUpToDate, board_over, board_with}
 use Rattle.place_pass.proofs.IdleKept.{idle_first, idle_found}
@@ -73,7 +73,7 @@ returns-clause-grantable g c =
     let w = c.self.inside.wishes in
     let l = (subst (λ (p : PlacerRecord). IsLevelWith p c.args.table.now) (sym c.self.view_is) c.requires.level).level in
     subst (λ (o : Option Pick). IfSome o (λ p. IsGrantable c.args.table.now (spot_of p))) c.in-Some.is
-    (pick_grantable w.cluster w.cells w.opened c.args.table.now c.cluster-wishes.ensures.sound l c.cluster-table.ensures.sound c.self.inside.line.pairs c.first.result c.self.invariant.admitted c.first.ensures.first)
+    (pick_grantable w.cluster w.cells w.opened c.args.table.now c.are_sound.ensures l c.is_sound.ensures c.self.inside.line.pairs c.first.result c.self.invariant.admitted c.first.ensures.first)
 
 pub forget_groups-requires-clause-level : goal.forget_groups-requires-clause-level
 unfolding IsLevelWith
@@ -128,7 +128,7 @@ returns-then-self-clause-level g c =
     let l = subst (λ (p : PlacerRecord). IsLevelWith p t) (sym c.self.view_is) c.requires.level in
     let k : KeptRecord = record { marks = c.self.inside.marks; turn_of = c.self.inside.turn_of.items; held = c.self.inside.held.items } in
     let marks = c.forget_groups.new.marks in
-    let forgotten = λ (m : ℕ) (o : get_or w.opened m false ≡ true). c.forget_groups.ensures.marks m (open_marked w.opened (length w.cluster.machines) (length c.self.inside.marks) m c.cluster-wishes.ensures.sound.opened c.self.invariant.marked o) in
+    let forgotten = λ (m : ℕ) (o : get_or w.opened m false ≡ true). c.forget_groups.ensures.marks m (open_marked w.opened (length w.cluster.machines) (length c.self.inside.marks) m c.are_sound.ensures.opened c.self.invariant.marked o) in
     record {
       level = l.level;
       idle = l.idle;
@@ -139,7 +139,7 @@ returns-then-self-clause-level g c =
         settled = λ m o. forgotten_key c.self.inside.turns t c.self.inside.line.pairs (mark_at k.marks m) (mark_at marks m) (forgotten m o) ∙ (l.quiet e).settled m o;
         waiting = (l.quiet e).waiting;
       };
-      clear = λ e f. record { clear = λ allowed m g o. c.forget_groups.ensures.clear allowed m g (open_marked w.opened (length w.cluster.machines) (length c.self.inside.marks) m c.cluster-wishes.ensures.sound.opened c.self.invariant.marked o) };
+      clear = λ e f. record { clear = λ allowed m g o. c.forget_groups.ensures.clear allowed m g (open_marked w.opened (length w.cluster.machines) (length c.self.inside.marks) m c.are_sound.ensures.opened c.self.invariant.marked o) };
     }
 
 pub returns-then-self-clause-rest : goal.returns-then-self-clause-rest
@@ -147,7 +147,7 @@ returns-then-self-clause-rest g c e allowed =
     let w = c.self.inside.wishes in
     record {
       clear = λ m n o settled. c.forget_groups.ensures.clear (subst (λ (p : PlacerRecord). AreAllowed c.args.table.now p.seen.line) (sym c.self.view_is) allowed) m n
-          (open_marked w.opened (length w.cluster.machines) (length c.self.inside.marks) m c.cluster-wishes.ensures.sound.opened c.self.invariant.marked o);
+          (open_marked w.opened (length w.cluster.machines) (length c.self.inside.marks) m c.are_sound.ensures.opened c.self.invariant.marked o);
     }
 
 pub returns-then-self-clause-settled : goal.returns-then-self-clause-settled
@@ -159,7 +159,7 @@ returns-then-self-clause-settled g c e m =
     let marks = c.forget_groups.new.marks in
     is_settled (get_or w.opened m false) (mark_at marks m) c.self.inside.turns (λ o.
     forgotten_key c.self.inside.turns t c.self.inside.line.pairs (mark_at c.self.inside.marks m) (mark_at marks m)
-    (c.forget_groups.ensures.marks m (open_marked w.opened (length w.cluster.machines) (length c.self.inside.marks) m c.cluster-wishes.ensures.sound.opened c.self.invariant.marked o))
+    (c.forget_groups.ensures.marks m (open_marked w.opened (length w.cluster.machines) (length c.self.inside.marks) m c.are_sound.ensures.opened c.self.invariant.marked o))
     ∙ (l.quiet c.if-self.true).settled m o)
 
 pub returns-clause-level : goal.returns-clause-level
@@ -211,7 +211,7 @@ returns-in_default-clause-level g c =
     let up = subst (λ (p : PlacerRecord). IsUpToDate p.seen t) (sym c.self.view_is) c.requires.up in
     let k : KeptRecord = record { marks = c.first.new.marks; turn_of = c.self.inside.turn_of.items; held = c.self.inside.held.items } in
     let marks = c.forget_groups-in_default.new.marks in
-    let forgotten = λ (m : ℕ) (o : get_or w.opened m false ≡ true). c.forget_groups-in_default.ensures.marks m (open_marked w.opened (length w.cluster.machines) (length c.first.new.marks) m c.cluster-wishes.ensures.sound.opened (c.first.ensures.marked ∙ c.self.invariant.marked) o) in
+    let forgotten = λ (m : ℕ) (o : get_or w.opened m false ≡ true). c.forget_groups-in_default.ensures.marks m (open_marked w.opened (length w.cluster.machines) (length c.first.new.marks) m c.are_sound.ensures.opened (c.first.ensures.marked ∙ c.self.invariant.marked) o) in
     record {
       level = l.level;
       idle = λ e. idle_found w.cells w.opened t c.self.inside.line.pairs up (sym c.first.ensures.first ∙ ap (option_map spot_of) c.in_default.is);
@@ -225,10 +225,10 @@ returns-in_default-clause-level g c =
         held = l.kept.held;
       });
       quiet = λ e. record {
-        settled = λ m o. forgotten_key c.self.inside.turns t c.self.inside.line.pairs (mark_at k.marks m) (mark_at marks m) (forgotten m o) ∙ c.first.ensures.settled c.in_default.is m (subst (λ (x : ClusterRecord). m < length x.machines) l.level.cluster_is (open_there w.opened (length w.cluster.machines) c.cluster-wishes.ensures.sound.opened m o)) o;
+        settled = λ m o. forgotten_key c.self.inside.turns t c.self.inside.line.pairs (mark_at k.marks m) (mark_at marks m) (forgotten m o) ∙ c.first.ensures.settled c.in_default.is m (subst (λ (x : ClusterRecord). m < length x.machines) l.level.cluster_is (open_there w.opened (length w.cluster.machines) c.are_sound.ensures.opened m o)) o;
         waiting = λ a u lt some. up a u ∙ and_true (nat_lt u (unit_count (as_known t.jobs) a)) _ (grind (arith, nat_tests, lt)) (grind (arith, nat_tests, some));
       };
-      clear = λ e f. record { clear = λ allowed m g o. c.forget_groups-in_default.ensures.clear allowed m g (open_marked w.opened (length w.cluster.machines) (length c.first.new.marks) m c.cluster-wishes.ensures.sound.opened (c.first.ensures.marked ∙ c.self.invariant.marked) o) };
+      clear = λ e f. record { clear = λ allowed m g o. c.forget_groups-in_default.ensures.clear allowed m g (open_marked w.opened (length w.cluster.machines) (length c.first.new.marks) m c.are_sound.ensures.opened (c.first.ensures.marked ∙ c.self.invariant.marked) o) };
     }
 
 pub returns-in_default-clause-first : goal.returns-in_default-clause-first
@@ -237,7 +237,7 @@ returns-in_default-clause-first g c = subst (λ (p : PlacerRecord). None ≡ fir
 pub returns-in_default-clause-rest : goal.returns-in_default-clause-rest
 returns-in_default-clause-rest g c e allowed =
     let w = c.self.inside.wishes in
-    record { clear = λ m n o settled. c.forget_groups-in_default.ensures.clear (subst (λ (p : PlacerRecord). AreAllowed c.args.table.now p.seen.line) (sym c.self.view_is) allowed) m n (open_marked w.opened (length w.cluster.machines) (length c.first.new.marks) m c.cluster-wishes.ensures.sound.opened (c.first.ensures.marked ∙ c.self.invariant.marked) o) }
+    record { clear = λ m n o settled. c.forget_groups-in_default.ensures.clear (subst (λ (p : PlacerRecord). AreAllowed c.args.table.now p.seen.line) (sym c.self.view_is) allowed) m n (open_marked w.opened (length w.cluster.machines) (length c.first.new.marks) m c.are_sound.ensures.opened (c.first.ensures.marked ∙ c.self.invariant.marked) o) }
 
 pub returns-in_default-clause-settled : goal.returns-in_default-clause-settled
 unfolding IsLevelWith
@@ -246,4 +246,4 @@ returns-in_default-clause-settled g c e m =
     let l = subst (λ (p : PlacerRecord). IsLevelWith p c.args.table.now) (sym c.self.view_is) c.requires.level in
     is_settled (get_or c.self.inside.wishes.opened m false) (mark_at c.forget_groups-in_default.new.marks m) c.self.inside.turns (λ o.
     forgotten_key c.self.inside.turns c.args.table.now c.self.inside.line.pairs (mark_at c.first.new.marks m) (mark_at c.forget_groups-in_default.new.marks m)
-    (c.forget_groups-in_default.ensures.marks m (open_marked w.opened (length w.cluster.machines) (length c.first.new.marks) m c.cluster-wishes.ensures.sound.opened (c.first.ensures.marked ∙ c.self.invariant.marked) o)) ∙ c.first.ensures.settled c.in_default.is m (subst (λ (x : ClusterRecord). m < length x.machines) l.level.cluster_is (open_there w.opened (length w.cluster.machines) c.cluster-wishes.ensures.sound.opened m o)) o)
+    (c.forget_groups-in_default.ensures.marks m (open_marked w.opened (length w.cluster.machines) (length c.first.new.marks) m c.are_sound.ensures.opened (c.first.ensures.marked ∙ c.self.invariant.marked) o)) ∙ c.first.ensures.settled c.in_default.is m (subst (λ (x : ClusterRecord). m < length x.machines) l.level.cluster_is (open_there w.opened (length w.cluster.machines) c.are_sound.ensures.opened m o)) o)

@@ -16,7 +16,7 @@ pub returns-then-stays-clause-opened : goal.returns-then-stays-clause-opened
 returns-then-stays-clause-opened c m =
     let w = c.self.inside.wishes in
     let r = subst (λ (p : PlacerRecord). c.args.machine.0 < length p.seen.cluster.machines) (sym c.self.view_is) c.requires in
-    let n = c.cluster-cluster.ensures.sound.opened in
+    let n = c.are_sound.ensures.opened in
     ap (λ (x : WishesRecord). get_or x.opened m false) c.open.ensures ∙ one_set w.opened c.args.machine.0 m c.args.usable false (omega (arith, r, n))
     ∙ ap (λ (p : PlacerRecord). cond (nat_eq c.args.machine.0 m) c.args.usable (is_open p.seen m)) c.self.view_is
 
@@ -24,7 +24,7 @@ pub returns-clause-opened : goal.returns-clause-opened
 returns-clause-opened c m =
     let w = c.self.inside.wishes in
     let r = subst (λ (p : PlacerRecord). c.args.machine.0 < length p.seen.cluster.machines) (sym c.self.view_is) c.requires in
-    let n = c.cluster-cluster.ensures.sound.opened in
+    let n = c.are_sound.ensures.opened in
     ap (λ (x : WishesRecord). get_or x.opened m false) c.open.ensures ∙ one_set w.opened c.args.machine.0 m c.args.usable false (omega (arith, r, n))
     ∙ ap (λ (p : PlacerRecord). cond (nat_eq c.args.machine.0 m) c.args.usable (is_open p.seen m)) c.self.view_is
 
@@ -35,7 +35,7 @@ returns-then-stays-clause-level c t l =
     let w = c.self.inside.wishes in
     let old = subst (λ (p : PlacerRecord). IsLevelWith p t) (sym c.self.view_is) l in
     let r = subst (λ (p : PlacerRecord). c.args.machine.0 < length p.seen.cluster.machines) (sym c.self.view_is) c.requires in
-    let n = c.cluster-cluster.ensures.sound.opened in
+    let n = c.are_sound.ensures.opened in
     let none = opens_none w.opened c.args.machine.0 c.args.usable c.is_open-opened.result (omega (arith, r, n)) c.is_open-opened.ensures c.if-stays.true in
     let kept : KeptRecord = record { marks = c.self.inside.marks; turn_of = c.self.inside.turn_of.items; held = c.self.inside.held.items } in
     record {

@@ -28,7 +28,7 @@ returns-clause-few c m some =
     let there : u < length (get_or w.cells a []) = subst (λ (p : PlacerRecord). u < units_seen p.seen a) (sym c.self.view_is) c.requires.unit in
     let want = (c.wish-wish.ensures.sound.unit a u there).want in
     let here : (nat_eq a a && nat_eq u u) ≡ true = and_true (nat_eq a a) (nat_eq u u) (nat_itself a) (nat_itself u) in
-    let rest = c.set_numbers.ensures.held es (spot a u m) 0 a u c.cluster-sound.ensures.sound.counts.sorted in
+    let rest = c.set_numbers.ensures.held es (spot a u m) 0 a u c.is_sound.ensures.counts.sorted in
     let part = is_part (nat_eq a a && nat_eq u u) _ (held es a u) (held_on es a u m) here rest in
     let out = c.outstanding.ensures in
     omega (arith, some, want, part, out)

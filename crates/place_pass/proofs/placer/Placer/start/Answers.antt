@@ -1,5 +1,5 @@
 use Rattle.std.proofs.Common.{◌≡◌, ℕ, zero, suc, ◌+◌, ◌*◌, Bool, true, false, List, [], length, get_or, nat_lt, refl, sym, ◌∙◌, ap, subst, arith, rules}
-use Rattle.written_roles.specs.Placing.{has_pair}
+use Rattle.spec_roles.specs.Placing.{has_pair}
 use Rattle.place_pass.specs.Bounds.{MarkRecord, reset_mark, Rises, turn_at}
 use Rattle.place_pass.proofs.FirstByTurn.{rising}
 use Rattle.place_pass.proofs.CellsMatchTable.{few_machines}
@@ -8,8 +8,6 @@ use Rattle.std.proofs.lemmas.Bool.Decides.{nat_tests}
 use Rattle.std.proofs.lemmas.List.{length-replicate}
 use Rattle.fuxi_terms.specs.Keys.{Pair}
 use Rattle.place_pass.specs.Best.{AreAdmitted}
-use Rattle.place_pass.specs.WaitingLines.{units_in_all}
-use Rattle.place_pass.proofs.PlacersLemmas.{no_units}
 use Rattle.grant_table.specs.GrantTables.{TableRecord}
 use Rattle.place_pass.specs.Cells.{Cell, WishesRecord, job_in, job_at}
 use Rattle.place_pass.specs.Placers.{AreLevel, IsLevelWith}
@@ -55,12 +53,10 @@ returns-clause-level c =
 
 pub invariant_of-result : goal.invariant_of-result
 invariant_of-result c =
-    let none : units_in_all c.in_ok-wishes.wishes.cells ≡ 0 = ap (λ (w : WishesRecord). units_in_all w.cells) c.in_ok-wishes.ensures ∙ no_units 256 in
     record {
       admitted = subst (AreAdmitted c.in_ok-wishes.wishes.cells) (sym c.in_ok-line.ensures) tt;
       places = ap (λ (w : WishesRecord). length w.cells) c.in_ok-wishes.ensures ∙ length-replicate {A = List Cell} 256 [];
-      counted = sym none;
-      room = omega (arith, none);
+      units = λ a u lt. let few : length (get_or c.in_ok-wishes.wishes.cells a []) ≡ 0 = ap (λ (w : WishesRecord). length (get_or w.cells a [])) c.in_ok-wishes.ensures ∙ ap length (none_in 256 a) in absurd (omega (arith, lt, few));
       marked = ap length c.in_ok-marks.ensures ∙ length-replicate {A = MarkRecord} c.machines.result (reset_mark 0) ∙ c.machines.ensures.number ∙ ap (λ (w : WishesRecord). length w.cluster.machines) (sym c.in_ok-wishes.ensures);
       turn_places = ap length (c.in_ok-turn_of.ensures.items_if_clones_equal (λ y e. search rules)) ∙ length-replicate {A = ℕ} 2048 0;
       held_places = ap length (c.in_ok-held.ensures.items_if_clones_equal (λ y e. search rules)) ∙ length-replicate {A = ℕ} 2048 0;

@@ -25,7 +25,7 @@ returns c =
     let is = ap (λ (x : Cell). x.unit.size) c.wish-wish.ensures.cell ∙ ap (λ (x : UnitRecord). x.size) (unit_is c.args.self.now.cluster c.args.self.now.cells t c.requires.level a u c.requires.unit) in
     let eight = (c.wish-wish.ensures.sound.unit a u c.requires.unit).size in
     let long = ap (λ (x : Cell). length x.unit.size) c.wish-wish.ensures.cell in
-    let used : (i : ℕ) → at_place c.used_by.result.now.q i ≡ usage_at (as_known t.jobs) (group_of (as_known t.jobs) a) i t.entries = λ i. c.used_by.ensures.used i ∙ ap (λ g. usage_at (as_known t.jobs) g i t.entries) g in
+    let used : (i : ℕ) → at_place c.used_by.result.q i ≡ usage_at (as_known t.jobs) (group_of (as_known t.jobs) a) i t.entries = λ i. c.used_by.ensures.used i ∙ ap (λ g. usage_at (as_known t.jobs) g i t.entries) g in
     let limit : (i : ℕ) → at_place c.group_or_none-group.result.limit.q i ≡ limit_at t.cluster (group_of (as_known t.jobs) a) i = λ i. c.group_or_none-group.ensures i ∙ (λ j. limit_at (c.cluster.ensures.cluster j) (g j) i) in
     let beyond : (i : ℕ) → t.cluster.resources ≤ i → usage_at (as_known t.jobs) (group_of (as_known t.jobs) a) i t.entries ≡ 0 = λ i ge. ap (λ g. usage_at (as_known t.jobs) g i t.entries) (sym g) ∙ c.used_by.ensures.beyond i ge in
-    c.allows.ensures ∙ allowed_is t a u c.wish-wish.result.now.size.q is (omega (arith, eight, long)) c.used_by.result.now.q c.group_or_none-group.result.limit.q used limit beyond (limit_past t.cluster c.cluster.ensures.sound.valid (group_of (as_known t.jobs) a))
+    c.allows.ensures ∙ allowed_is t a u c.wish-wish.result.now.size.q is (omega (arith, eight, long)) c.used_by.result.q c.group_or_none-group.result.limit.q used limit beyond (limit_past t.cluster c.cluster.ensures.sound.valid (group_of (as_known t.jobs) a))

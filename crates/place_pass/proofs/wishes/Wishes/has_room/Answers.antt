@@ -12,4 +12,4 @@ returns c m free =
     let is = ap (λ (x : Cell). x.unit.size) c.wish-wish.ensures.cell ∙ ap (λ (x : UnitRecord). x.size) (unit_is c.args.self.now.cluster c.args.self.now.cells t c.requires.level a u c.requires.unit) in
     let eight = (c.wish-wish.ensures.sound.unit a u c.requires.unit).size in
     let long = ap (λ (x : Cell). length x.unit.size) c.wish-wish.ensures.cell in
-    c.fits.ensures ∙ room_fits t a u c.wish-wish.result.now.size.q is (omega (arith, eight, long)) m c.args.free.now.q (has_past t.cluster c.cluster-table.ensures.sound.valid m) free.is free.within
+    c.fits.ensures ∙ room_fits t a u c.wish-wish.result.now.size.q is (omega (arith, eight, long)) m c.args.free.now.q (has_past t.cluster c.is_sound.ensures.valid m) free.is free.within

@@ -10,5 +10,5 @@ returns c e m a u free lt =
     let w = c.args.self.now in
     let t = c.args.table.now in
     let is = ap (λ (x : UnitRecord). x.size) (unit_is w.cluster w.cells t c.requires.level a u lt) in
-    let eight = (c.cluster-wishes.ensures.sound.unit a u lt).size in
-    sym (room_fits t a u (cell_at w.cells a u).unit.size is (omega (arith, eight)) m c.args.free.now.q (has_past t.cluster c.cluster-table.ensures.sound.valid m) free.is free.within) ∙ c.none_fits.ensures e a u lt
+    let eight = (c.are_sound.ensures.unit a u lt).size in
+    sym (room_fits t a u (cell_at w.cells a u).unit.size is (omega (arith, eight)) m c.args.free.now.q (has_past t.cluster c.is_sound.ensures.valid m) free.is free.within) ∙ c.none_fits.ensures e a u lt

@@ -3,7 +3,7 @@ use Rattle.std.specs.Prelude.{◌&&◌}
 use Rattle.std.proofs.lemmas.Bool.Decides.{nat_tests}
 use Rattle.fuxi_terms.specs.Jobs.{size_at, most_of}
 use Rattle.fuxi_terms.proofs.Booleans.{and_false}
-use Rattle.written_roles.specs.Placing.{accepts_in, has_room_in}
+use Rattle.spec_roles.specs.Placing.{accepts_in, has_room_in}
 use Rattle.grant_table.specs.GrantTables.{as_known}
 use Rattle.fuxi_terms.specs.Tables.{held_on}
 use Rattle.place_pass.specs.Cells.{cell_at}

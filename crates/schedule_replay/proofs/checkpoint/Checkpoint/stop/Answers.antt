@@ -2,7 +2,7 @@ use Rattle.std.proofs.Common.{ap, ◌∙◌}
 use Rattle.hard_state.specs.declared.fault.HardFault.{HardFault}
 use Rattle.schedule_replay.specs.GrowingDisks.{Grown}
 use Rattle.schedule_replay.specs.Held.{Held}
-use Rattle.party_orders.specs.OrderedParties.{event_of}
+use Rattle.party_commands.specs.CommandedParties.{event_of}
 use Rattle.schedule_replay.proofs.StopLeaves.{leaves_stopped}
 use Rattle.schedule_replay.proofs.checkpoint.Checkpoint.stop.Goals as goal
 

@@ -1,5 +1,5 @@
 use Rattle.std.proofs.Common.{refl}
-use Rattle.written_parties.specs.SeenParties.{Masters, Agents, Apps}
+use Rattle.spec_refinement.specs.SeenParties.{Masters, Agents, Apps}
 use Rattle.schedule_replay.proofs.EmptyWorldStands.{is_empty_world, stands_for_empty, starts_reached}
 use Rattle.schedule_replay.proofs.running.Running.start.Goals as goal
 

@@ -9,5 +9,5 @@ get-requires c = ap is_some (middle_node _ _ c.requires.front _ c.requires.entry
 
 pub returns : goal.returns
 returns c = λ front back entry stands.
-    c.slot_of.ensures (first_of back None) (ap (λ n. n.behind) (same_Some _ _ (sym c.get.ensures ∙ middle_node _ _ front _ entry back stands)))
+    c.slot.ensures (first_of back None) (ap (λ n. n.behind) (same_Some _ _ (sym c.get.ensures ∙ middle_node _ _ front _ entry back stands)))
     (first_live _ _ back None (linked_parts _ None front ((c.args.slot, entry) ∷ back) None stands.linked).1.1)

@@ -1,5 +1,0 @@
-use Rattle.broadcast.proofs.ProjectionsLemmas.{row_follows}
-use Rattle.broadcast.proofs.law.rows_follow_tables.Goals as goal
-
-pub returns : goal.returns
-returns c jobs m old new ns h k numbers f = row_follows jobs m old new ns h k numbers f

@@ -1,8 +1,0 @@
-use Rattle.channel_join.proofs.AlikeLemmas.{met_alike, acked_place}
-use Rattle.channel_join.proofs.law.links_are_one.Goals as goal
-
-pub returns : goal.returns
-returns c = record {
-  met = λ l inc. met_alike l inc;
-  acked = λ own last l x. acked_place own last l x;
-}

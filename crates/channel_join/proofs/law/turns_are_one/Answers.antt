@@ -1,5 +1,0 @@
-use Rattle.channel_join.proofs.AlikeLemmas.{turn_marked}
-use Rattle.channel_join.proofs.law.turns_are_one.Goals as goal
-
-pub returns : goal.returns
-returns c = λ p q last l. turn_marked p q last l

@@ -1,4 +1,0 @@
-use Rattle.core_cases.proofs.trees.MadeCases.answer_line.Given as goal
-
-abbrev pub ghosts-compare_tables : goal.ghosts-compare_tables
-ghosts-compare_tables a = record { name = a.blank.name; parts = a.blank.parts }

@@ -1,4 +1,0 @@
-use Rattle.core_cases.proofs.trees.case.print_path.Goals as goal
-
-pub loop-init : goal.loop-init
-loop-init c = record { pairs = c.path-path.ensures.pairs; leads = c.path-path.ensures.leads }

@@ -1,5 +1,0 @@
-use Rattle.locality_tree.specs.Paths.{IsWalkable}
-use Rattle.core_cases.proofs.trees.case.print_path.Given as goal
-
-abbrev pub invariant-loop : goal.invariant-loop
-invariant-loop l = IsWalkable l.path

@@ -1,5 +1,0 @@
-use Rattle.core_side.proofs.CoreSidesLemmas.{shown_already}
-use Rattle.core_side.proofs.side.Side.is_shown.Goals as goal
-
-pub returns : goal.returns
-returns g c = shown_already _ _ _ _ _ c.args.self.now

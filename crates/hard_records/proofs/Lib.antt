@@ -1,4 +1,0 @@
-pub mod Front
-pub mod Back
-pub mod Made
-pub mod ByKind

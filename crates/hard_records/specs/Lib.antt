@@ -1,2 +1,0 @@
-pub mod RecordBodies
-pub mod UnitRecords

@@ -1,2 +1,0 @@
-pub mod LeaseProgressLemmas
-pub mod LeaseEndsLemmas

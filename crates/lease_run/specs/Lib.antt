@@ -1,4 +1,0 @@
-pub mod LeaseTexts
-pub mod LeaseRuns
-pub mod LeaseEnds
-pub mod LeaseProgress

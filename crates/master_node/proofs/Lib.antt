@@ -1,6 +1,0 @@
-pub mod NodeCommandsLemmas
-pub mod KnowledgeKept
-pub mod Moments
-pub mod OpenedMastersLemmas
-pub mod RestKept
-pub mod SentToPeers

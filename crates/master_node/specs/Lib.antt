@@ -1,3 +1,0 @@
-pub mod MasterParties
-pub mod OpenedMasters
-pub mod NodeCommands

@@ -1,5 +1,0 @@
-mod Walks
-mod Spots
-mod Loops
-mod Jobs
-mod LineOfKnownJobs

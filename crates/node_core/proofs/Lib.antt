@@ -1,0 +1,10 @@
+pub mod TalksLemmas
+pub mod Packets
+pub mod HeardPacketsLemmas
+pub mod FrameReadersLemmas
+pub mod Hears
+pub mod RoundsLemmas
+pub mod Served
+pub mod HeardOfBytes
+pub mod Pieces
+pub mod Anywhere

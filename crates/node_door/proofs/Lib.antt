@@ -1,2 +1,0 @@
-pub mod MemoryReads
-pub mod ConnectionsTook

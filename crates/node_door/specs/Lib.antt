@@ -1,4 +1,0 @@
-pub mod DoorOrders
-pub mod Doors
-pub mod MemoryDoors
-pub mod DoorsLemmas

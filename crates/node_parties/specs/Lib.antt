@@ -1,0 +1,5 @@
+pub mod AgentParties
+pub mod AppParties
+pub mod MasterParties
+pub mod OpenedMasters
+pub mod NodeCommands

@@ -1,4 +1,0 @@
-pub mod NodeLines
-pub mod PartyEvents
-pub mod NodeTexts
-pub mod NodeHalts

@@ -1,5 +1,0 @@
-use Rattle.node_rounds.proofs.HeardOfBytes.{heard_once}
-use Rattle.node_rounds.proofs.one_hearing.Goals as goal
-
-pub returns : goal.returns
-returns c = heard_once c.one_frame.ensures c.one_reading.ensures.one

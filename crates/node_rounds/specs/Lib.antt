@@ -1,4 +1,0 @@
-pub mod Roles
-pub mod HeardPackets
-pub mod Ears
-pub mod Rounds

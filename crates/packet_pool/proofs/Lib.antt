@@ -1,3 +1,0 @@
-pub mod FrameBytes
-pub mod PacketPoolsLemmas
-pub mod FramesReadBack

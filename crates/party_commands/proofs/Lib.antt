@@ -1,0 +1,2 @@
+pub mod CommandedPartiesLemmas
+pub mod CarriedCommandsLemmas

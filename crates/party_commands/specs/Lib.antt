@@ -1,0 +1,3 @@
+pub mod PartyCommands
+pub mod CommandedParties
+pub mod CarriedCommands

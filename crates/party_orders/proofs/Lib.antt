@@ -1,2 +1,0 @@
-pub mod OrderedPartiesLemmas
-pub mod CarriedOrdersLemmas

@@ -1,3 +1,0 @@
-pub mod PartyOrders
-pub mod OrderedParties
-pub mod CarriedOrders

@@ -1,5 +1,0 @@
-use Rattle.party_slots.proofs.MastersLemmas.{heard_role}
-use Rattle.party_slots.proofs.masters.MasterParty.hear.Goals as goal
-
-pub returns-clause-hears : goal.returns-clause-hears
-returns-clause-hears c = heard_role c.args.packet c.args.self c.hear.result c.hear.ensures.answers

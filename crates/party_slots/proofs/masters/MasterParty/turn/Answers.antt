@@ -1,5 +1,0 @@
-use Rattle.party_slots.proofs.MastersLemmas.{sent_role}
-use Rattle.party_slots.proofs.masters.MasterParty.turn.Goals as goal
-
-pub returns-clause-sends : goal.returns-clause-sends
-returns-clause-sends c = sent_role c.args.self c.turn.result c.turn.ensures.answers

@@ -1,2 +1,0 @@
-pub mod AgentParties
-pub mod AppParties

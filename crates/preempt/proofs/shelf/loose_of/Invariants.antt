@@ -1,7 +1,0 @@
-use Rattle.std.proofs.Common.{take}
-use Rattle.std.specs.List.{AllByRecursion}
-use Rattle.preempt.specs.Shelves.{IsLoose}
-use Rattle.preempt.proofs.shelf.loose_of.Given as goal
-
-abbrev pub invariant-loop-e : goal.invariant-loop-e
-invariant-loop-e l = AllByRecursion (IsLoose l.resources l.groups l.loose) (take l.e-index l.entries)

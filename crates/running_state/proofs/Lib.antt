@@ -1,6 +1,0 @@
-mod Walks
-mod Loops
-mod Found
-mod Whole
-mod Lists
-mod Peers

@@ -1,3 +1,0 @@
-pub mod ShownStates
-pub mod Parts
-pub mod ChannelEnds

@@ -1,4 +1,0 @@
-pub mod GivenLemmas
-pub mod ScheduleProgressLemmas
-pub mod ScheduleRunsLemmas
-pub mod ToldLemmas

@@ -1,4 +1,0 @@
-pub mod Inputs
-pub mod ScheduleRuns
-pub mod Told
-pub mod ScheduleProgress

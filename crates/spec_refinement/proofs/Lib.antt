@@ -1,0 +1,13 @@
+pub mod HeardJoin
+pub mod SidesLemmas
+pub mod ParcelsLemmas
+pub mod AgentsJoin
+pub mod AppsJoin
+pub mod MastersJoin
+pub mod LeadsLemmas
+pub mod EntriesLead
+pub mod KeptReports
+pub mod ShowsLemmas
+pub mod WordsAreRuled
+pub mod ActsLemmas
+pub mod SeenPartiesLemmas

@@ -1,2 +1,0 @@
-pub mod NamesLemmas
-pub mod EndsLemmas

@@ -1,2 +1,0 @@
-pub mod WorkProgressLemmas
-pub mod WorkRunStatesLemmas

@@ -1,3 +1,0 @@
-pub mod WorkLineRuns
-pub mod WorkProgress
-pub mod WorkRunStates

@@ -1,5 +1,0 @@
-use Rattle.work_text.proofs.GivenLines.{line_given}
-use Rattle.work_text.proofs.law.lines_give_events.Goals as goal
-
-pub returns : goal.returns
-returns c = line_given

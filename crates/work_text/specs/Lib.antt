@@ -1,3 +1,0 @@
-pub mod WorkLineForms
-pub mod ReadWorkEvents
-pub mod WorkPrinting

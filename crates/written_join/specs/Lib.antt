@@ -1,4 +1,0 @@
-pub mod SeenWorlds
-pub mod PartyJoins
-pub mod Leading
-pub mod States

@@ -1,3 +1,0 @@
-pub mod WordsAreRuled
-pub mod ActsLemmas
-pub mod SeenPartiesLemmas

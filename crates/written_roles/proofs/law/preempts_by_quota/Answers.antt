@@ -1,6 +1,0 @@
-use Rattle.written_roles.specs.Preemption.{tried}
-use Rattle.written_roles.proofs.TakenByQuotaLemmas.{plan_by_quota}
-use Rattle.written_roles.proofs.law.preempts_by_quota.Goals as goal
-
-pub returns : goal.returns
-returns c = λ cluster M p e. plan_by_quota (tried cluster M) cluster M p e

@@ -1,3 +1,0 @@
-pub mod TakenLemmas
-pub mod BefallsLemmas
-pub mod StormsLemmas

@@ -1,2 +1,0 @@
-pub mod RunAfterLemmas
-pub mod WorkStatesLemmas

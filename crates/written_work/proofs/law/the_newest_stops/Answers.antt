@@ -1,7 +1,0 @@
-use Rattle.std.proofs.Common.{refl}
-use Rattle.written_work.specs.AgentWithApps.{all_apps, all_units}
-use Rattle.written_work.proofs.law.the_newest_stops.Goals as goal
-
-pub returns : goal.returns
-unfolding all_apps all_units
-returns c = refl

@@ -1,5 +1,0 @@
-use Rattle.written_world.proofs.InvariantKept.{always_credited}
-use Rattle.written_world.proofs.law.credited_is_given_back.Goals as goal
-
-pub returns : goal.returns
-returns c = always_credited

@@ -1,5 +1,0 @@
-use Rattle.written_world.proofs.HeedsDemandsLemmas.{all_heed}
-use Rattle.written_world.proofs.law.demands_are_heeded.Goals as goal
-
-pub returns : goal.returns
-returns c = λ cluster events. all_heed cluster events

@@ -1,5 +1,0 @@
-use Rattle.written_world.proofs.EventStepsLemmas.{all_bare}
-use Rattle.written_world.proofs.law.every_run_keeps_banned_machines_bare.Goals as goal
-
-pub returns : goal.returns
-returns c = λ cluster events. all_bare cluster events

@@ -1,7 +1,0 @@
-use Rattle.written_net.specs.Sound.{Bounded}
-use Rattle.written_net.proofs.BoundedLemmas.{move_bounded, silent_bounded}
-use Rattle.written_world.proofs.MovesWalk.{run_keeps}
-use Rattle.written_world.proofs.law.nothing_is_past_its_end.Goals as goal
-
-pub returns : goal.returns
-returns c = λ cluster events. run_keeps Bounded move_bounded cluster events silent_bounded
