@@ -10,17 +10,21 @@ SET_PARENT_DEATH_SIGNAL = 1
 LIBRARY = ctypes.CDLL(None)
 
 
-class BrokenOff(Exception):
-    """A signal came that ends the run at once."""
+# Ctrl-C, a unit that is stopped, a terminal that is closed.
+ENDINGS = (signal.SIGINT, signal.SIGTERM, signal.SIGHUP)
+
+
+class BrokenOff(BaseException):
+    """A signal came that ends the run at once. (No `except Exception` on its way takes it for a fault of its own.)"""
 
 
 class Ending:
     """The signals so far. Within `gently` the first one is a flag that the run reads between its rounds, and the second one breaks it off;
-    outside of it the first one does. Once it is broken off, or closes, no signal disturbs what is cleared away."""
+    before it the first one does. Once the run is broken off, and behind `gently`, no signal disturbs what is cleared away."""
 
     def __init__(self):
         self.is_asked, self.is_gentle, self.is_closing = False, False, False
-        for number in (signal.SIGINT, signal.SIGTERM, signal.SIGHUP):
+        for number in ENDINGS:
             signal.signal(number, self.take)
 
     def take(self, number, _):
@@ -38,10 +42,14 @@ class Ending:
         try:
             yield
         finally:
-            self.is_gentle = False
+            self.close()
 
     def close(self):
+        """From here on the system drops the signals: a handler would live only until the interpreter begins to end, and a signal that falls
+        behind that would kill it, with a status that says so."""
         self.is_closing = True
+        for number in ENDINGS:
+            signal.signal(number, signal.SIG_IGN)
 
 
 def end_with(parent):
