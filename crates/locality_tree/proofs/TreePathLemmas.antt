@@ -1,5 +1,5 @@
 -- The units that wait, in the order of their ranks, are those that the walk over three queues gives.
-use Rattle.std.proofs.Common.{◌≡◌, ℕ, ◌+◌, ◌*◌, ◌<◌, ◌||◌, Bool, true, false, cond, List, [], ◌∷◌, ◌++◌, Option, Some, None, is_some, length, map, get_or, refl, sym, ap, subst, ◌∙◌, inl, inr, arith}
+use Rattle.std.proofs.Common.{◌≡◌, ℕ, ◌+◌, ◌*◌, ◌<◌, ◌||◌, Bool, true, false, cond, List, [], ◌∷◌, ◌++◌, Option, Some, None, is_some, length, get_or, refl, sym, ap, subst, ◌∙◌, inl, inr, arith}
 use Rattle.fuxi_terms.proofs.Booleans.{both_false, not_both}
 use Rattle.fuxi_terms.proofs.Members.{In, in_left, in_right}
 use Rattle.slot_pool.specs.declared.pool.Slot.{Slot}
@@ -11,14 +11,14 @@ use Rattle.wait_queue.specs.Queues.{Item, IsInOrder}
 use Rattle.locality_tree.specs.declared.layout.Layout.{Layout}
 use Rattle.locality_tree.specs.declared.place_set.PlaceSet.{PlaceSet}
 use Rattle.locality_tree.specs.PlaceSets.{is_marked}
-use Rattle.locality_tree.specs.Trees.{RankedEntry, UnitState, unit_at, level_at, rack_place, cluster_place, HasPath}
+use Rattle.locality_tree.specs.Trees.{RankedEntry, unit_at, level_at, rack_place, cluster_place, HasPath}
 use Rattle.locality_tree.specs.Layouts.{Slots, slots_of, sets_of, slot_in, number_of, entry_in, IsQueueAt, tree_record, IsTree}
 use Rattle.locality_tree.specs.Paths.{is_at_either, nothing, unskipped, IsRanking, pairs_of}
 use Rattle.locality_tree.proofs.MembersLemmas.{in_append}
 use Rattle.locality_tree.proofs.QueueLaws.{Entries, member_entry, same_entry}
 use Rattle.locality_tree.proofs.LayoutsLemmas.{listed}
 use Rattle.locality_tree.proofs.RanksLemmas.{sorted, with_levels}
-use Rattle.locality_tree.proofs.TreesLemmas.{state_at, entry_of}
+use Rattle.locality_tree.proofs.TreesLemmas.{entry_of, stands_of}
 
 -- an entry with its slot among the items
 abbrev pub HasEntry : Entry → List Item → Type 0
@@ -181,14 +181,8 @@ module _ (law : Entries) (racks : List ℕ) (p : Layout) (t : IsTree racks p) (m
 
   level_is : (a u : ℕ) → level_at (tree_record racks p) a u m ≡ cond (is_some (slot_in slots (8 * a + u) m)) 0 (cond (is_some (slot_in slots (8 * a + u) rack)) 1 2)
   level_is a u =
-      let near : get_or (unit_at (tree_record racks p) a u).stands m false ≡ is_some (slot_in slots (8 * a + u) m) = ap (λ (x : UnitState). get_or x.stands m false) (state_at racks p (8 * a + u)) ∙ stand_in (get_or slots (8 * a + u) []) m in
-      let at_rack : get_or (unit_at (tree_record racks p) a u).stands rack false ≡ is_some (slot_in slots (8 * a + u) rack) = ap (λ (x : UnitState). get_or x.stands rack false) (state_at racks p (8 * a + u)) ∙ stand_in (get_or slots (8 * a + u) []) rack in
-      ap (λ b. cond b 0 (cond (get_or (unit_at (tree_record racks p) a u).stands rack false) 1 2)) near ∙ ap (λ b. cond (is_some (slot_in slots (8 * a + u) m)) 0 (cond b 1 2)) at_rack
-    where
-      stand_in : (r : List (Option Slot)) (place : ℕ) → get_or (map is_some r) place false ≡ is_some (get_or r place None)
-      stand_in [] place = refl
-      stand_in (o ∷ os) Prim.Native.Nat.zero = refl
-      stand_in (o ∷ os) (Prim.Native.Nat.suc place) = stand_in os place
+      let at_rack : Bool = get_or (unit_at (tree_record racks p) a u).stands rack false in
+      ap (λ b. cond b 0 (cond at_rack 1 2)) (stands_of racks p (8 * a + u) m) ∙ ap (λ b. cond (is_some (slot_in slots (8 * a + u) m)) 0 (cond b 1 2)) (stands_of racks p (8 * a + u) rack)
 
   in_order : IsInOrder true (t.kept.lists last)
   in_order = subst (λ (b : Bool). IsInOrder b (t.kept.lists last)) (queue_at last last_queued).by_priority (queue_at last last_queued).stands.ordered

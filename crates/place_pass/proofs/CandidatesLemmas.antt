@@ -18,7 +18,7 @@ use Rattle.fuxi_terms.proofs.Lookups.{none_is}
 use Rattle.grant_table.specs.GrantTables.{TableRecord, as_known}
 use Rattle.spec_roles.specs.Masters.{level_of}
 use Rattle.spec_roles.specs.Placing.{Board, has_pair, accepts_in, has_room_in, is_allowed_in, may_grow_in, placeable_in}
-use Rattle.place_pass.specs.declared.marks.Mark.{Mark}
+use Rattle.place_pass.specs.declared.marks.mark.Mark.{Mark}
 use Rattle.place_pass.specs.declared.search.BestFound.{BestFound}
 use Rattle.place_pass.specs.Bounds.{MarkRecord, mark_of, mark_at, no_mark, rank_of, key_of, zero_rank, rank_at, rank_on, comes_before, is_bound, IsBounded}
 use Rattle.place_pass.specs.Cells.{Cell, asks_in}

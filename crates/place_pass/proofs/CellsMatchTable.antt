@@ -9,7 +9,7 @@ use Rattle.fuxi_terms.specs.Cluster.{ClusterRecord, MachineRecord, GroupRecord, 
 use Rattle.fuxi_terms.specs.Vectors.{at_place}
 use Rattle.std.proofs.Math.ListN.{get_or-eq_default}
 use Rattle.fuxi_terms.proofs.ByPlace.{at_place-get_or}
-use Rattle.place_pass.specs.declared.wishes.Wish.{Wish}
+use Rattle.place_pass.specs.declared.demand.wishes.Wish.{Wish}
 use Rattle.cluster_desc.specs.declared.cluster.Machine.{Machine}
 use Rattle.cluster_desc.specs.Records.{machine_of as padded_machine}
 use Rattle.fuxi_terms.specs.Jobs.{KnownJob, job_of, units_of, unit_of, unit_count, group_of, most_of, no_unit}

@@ -7,7 +7,7 @@ use Rattle.std.proofs.lemmas.Bool.Decides.{nat_tests}
 use Rattle.std.proofs.lemmas.List.{length-map, length-set, length-replicate}
 use Rattle.fuxi_terms.proofs.Booleans.{both_false, number_is, nat_itself}
 use Rattle.fuxi_terms.proofs.IndexedLists.{one_set}
-use Rattle.place_pass.specs.declared.marks.Mark.{Mark}
+use Rattle.place_pass.specs.declared.marks.mark.Mark.{Mark}
 use Rattle.place_pass.specs.Bounds.{MarkRecord, mark_of, mark_at, key_of, zero_rank, no_mark, reset_mark, lowered, lowered_mark, taken_mark}
 use Rattle.place_pass.specs.NotedMarks.{AreNoted, AreClearUnless}
 use Rattle.place_pass.specs.PackedRanks.{never_rank, renewed_number, IsSmall, IsAbove}

@@ -2,7 +2,7 @@
 use Rattle.std.proofs.Common.{◌≡◌, ℕ, ◌^◌, ◌<◌, ◌≤◌, Bool, true, false, cond, nat_eq, nat_lt, List, [], ◌∷◌, ◌++◌, Option, None, Some, refl, sym, ◌∙◌, ap, subst, arith, inl, inr, ◌⊎◌}
 use Rattle.std.specs.Prelude.{◌&&◌, ◌||◌, is_some}
 use Rattle.std.proofs.lemmas.Bool.Decides.{nat_tests}
-use Rattle.place_pass.specs.declared.marks.Rank.{Rank}
+use Rattle.place_pass.specs.declared.marks.mark.Rank.{Rank}
 use Rattle.place_pass.specs.Bounds.{MarkRecord, rank_of, key_of, zero_rank, comes_before}
 use Rattle.place_pass.specs.PackedRanks.{packed, no_rank, IsSmall, IsAbove}
 use Rattle.fuxi_terms.proofs.Lookups.{none_is}

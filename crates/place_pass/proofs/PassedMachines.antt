@@ -10,7 +10,7 @@ use Rattle.place_pass.specs.PackedRanks.{packed, no_rank, IsSmall, IsAbove}
 use Rattle.place_pass.specs.SearchCounts.{is_unsettled_by}
 use Rattle.place_pass.specs.Scenes.{board_in, CanSearch, IsMarked, AreMarked, IsLeastOn, IsSettledBy, IsEarliest}
 use Rattle.place_pass.specs.Candidates.{IsBehind, AreBehind, ArePassed, IsRaised, limit_in, found_rank, turn_in}
-use Rattle.place_pass.specs.declared.marks.Rank.{Rank}
+use Rattle.place_pass.specs.declared.marks.mark.Rank.{Rank}
 use Rattle.place_pass.specs.declared.search.BestFound.{BestFound}
 use Rattle.place_pass.specs.declared.search.Least.{Least}
 use Rattle.place_pass.specs.declared.search.SearchInput.{SearchInput}

@@ -10,7 +10,7 @@ use Rattle.fuxi_terms.specs.Keys.{key_cmp}
 use Rattle.fuxi_terms.specs.TallyKeys.{greatest_demand}
 use Rattle.fuxi_terms.specs.declared.Key.{Key}
 use Rattle.fuxi_terms.proofs.IndexedLists.{repeated_at, slot_within}
-use Rattle.place_pass.specs.declared.wishes.Wish.{Wish}
+use Rattle.place_pass.specs.declared.demand.wishes.Wish.{Wish}
 use Rattle.place_pass.specs.Cells.{Cell, WishesRecord, AreWishes, AreAbove, IsWish, no_cell, cell_of, cell_at, cells_in, cells_of, all_cells, wishes_record, taken_all}
 use Rattle.place_pass.proofs.CellsLemmas.{above_taken, wishes_set, taken_wishes, length-taken_all}
 

@@ -13,8 +13,8 @@ use Rattle.fuxi_terms.specs.TallyKeys.{key, near_key, rack_key}
 use Rattle.wait_queue.specs.declared.node.Entry.{Entry}
 use Rattle.locality_tree.specs.Trees.{UnitState, TreeRecord, unit_at, unit_number, rack_place, place_count, with_stand}
 use Rattle.place_pass.specs.Cells.{Cell, asks_in, taken_all}
-use Rattle.place_pass.specs.declared.scope.Scope.{Scope}
-use Rattle.place_pass.specs.declared.scope.Scope.TheVariants as scope
+use Rattle.place_pass.specs.declared.demand.scope.Scope.{Scope}
+use Rattle.place_pass.specs.declared.demand.scope.Scope.TheVariants as scope
 use Rattle.place_pass.proofs.AskedTheSame.{cell_alike, stands_alike}
 use Rattle.place_pass.specs.PlacerTrees.{StandsAs, WaitsIn, is_unmet_on, is_unmet_in}
 use Rattle.place_pass.specs.DemandScopes.{AsksWithin, StandsAt, StoodAt, StandsWithin}

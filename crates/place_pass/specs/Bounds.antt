@@ -12,8 +12,8 @@ use Rattle.fuxi_terms.specs.TallyKeys.{rack_key}
 use Rattle.spec_roles.specs.Masters.{level_of}
 use Rattle.spec_roles.specs.Placing.{Board, accepts_in, has_room_in, is_allowed_in}
 use Rattle.place_pass.specs.Cells.{Cell}
-use Rattle.place_pass.specs.declared.marks.Mark.{Mark}
-use Rattle.place_pass.specs.declared.marks.Rank.{Rank}
+use Rattle.place_pass.specs.declared.marks.mark.Mark.{Mark}
+use Rattle.place_pass.specs.declared.marks.mark.Rank.{Rank}
 
 -- a bound of the ranks on the machine, with the turn in place of the place in the line and without the machine, and none where no pair may be placed; the turn
 -- below which pairs were looked at; and by group, whether a pair of it may have room that its limit does not allow

@@ -14,7 +14,7 @@ use Rattle.fuxi_terms.specs.Jobs.{no_unit}
 use Rattle.fuxi_terms.specs.Vectors.{fits}
 use Rattle.locality_tree.specs.declared.place_set.PlaceSet.{PlaceSet}
 use Rattle.locality_tree.specs.PlaceSets.{in_set}
-use Rattle.place_pass.specs.declared.wishes.Wish.{Wish}
+use Rattle.place_pass.specs.declared.demand.wishes.Wish.{Wish}
 
 -- the unit and its group; how many grants are wanted in all, by machine and by rack; and by machine, 1 where it is avoided
 pub record Cell : Type 0 where

@@ -7,8 +7,8 @@ use Rattle.fuxi_terms.specs.declared.Key.{Key}
 use Rattle.fuxi_terms.specs.Keys.{key_cmp}
 use Rattle.fuxi_terms.specs.Tables.{Table}
 use Rattle.locality_tree.specs.Trees.{TreeRecord, unit_at, unit_number, rack_place}
-use Rattle.place_pass.specs.declared.scope.Scope.{Scope}
-use Rattle.place_pass.specs.declared.scope.Scope.TheVariants as scope
+use Rattle.place_pass.specs.declared.demand.scope.Scope.{Scope}
+use Rattle.place_pass.specs.declared.demand.scope.Scope.TheVariants as scope
 use Rattle.place_pass.specs.Cells.{Cell, no_cell, asks_at, taken, is_gone}
 use Rattle.place_pass.specs.Placers.{is_named}
 use Rattle.place_pass.specs.PlacerTrees.{Restood, StandsAs, is_unmet_on, is_unmet_in}

@@ -1,6 +1,6 @@
 -- A rank on a machine as one number, which orders as such ranks do: the least of many is found by plain numbers.
 use Rattle.std.specs.Prelude.{◌≡◌, ℕ, ◌+◌, ◌-◌, ◌*◌, ◌^◌, ◌<◌, ◌≤◌, cond, nat_eq, Some}
-use Rattle.place_pass.specs.declared.marks.Rank.{Rank}
+use Rattle.place_pass.specs.declared.marks.mark.Rank.{Rank}
 use Rattle.place_pass.specs.Bounds.{MarkRecord, rank_of, key_of}
 
 abbrev pub packed : Rank → ℕ → ℕ

@@ -4,7 +4,7 @@ use Rattle.std.proofs.Common.{get_or}
 use Rattle.fuxi_terms.specs.Keys.{Pair}
 use Rattle.spec_roles.specs.Masters.{out_of}
 use Rattle.spec_roles.specs.Placing.{Board, has_pair}
-use Rattle.place_pass.specs.declared.marks.Rank.{Rank}
+use Rattle.place_pass.specs.declared.marks.mark.Rank.{Rank}
 use Rattle.place_pass.specs.declared.search.BestFound.{BestFound}
 use Rattle.place_pass.specs.declared.search.SearchInput.{SearchInput}
 use Rattle.place_pass.specs.declared.search.Candidate.{Candidate}

@@ -1,0 +1,12 @@
+use Rattle.std.proofs.Common.{◌≡◌, ℕ, ◌<◌, ◌≤◌, false, length, get_or}
+use Rattle.locality_tree.specs.Trees.{unit_at, unit_number}
+use Rattle.place_pass.specs.PlacerTrees.{WaitsIn, Restood, is_unmet_on}
+use Rattle.place_pass.proofs.line.standing.mark_machines.Given as goal
+
+abbrev pub invariant-loop-number : goal.invariant-loop-number
+invariant-loop-number l = record {
+  restood : Restood (unit_number l.entry.app.0 l.entry.unit.0) l.initial.tree l.tree;
+  waits : WaitsIn l.wishes.cluster l.entry l.tree;
+  near : (m : ℕ) → m < l.number → get_or (unit_at l.tree l.entry.app.0 l.entry.unit.0).stands m false ≡ is_unmet_on l.wishes.cells l.table.entries l.entry.app.0 l.entry.unit.0 m;
+  rest : (place : ℕ) → length l.wishes.cluster.machines ≤ place → get_or (unit_at l.tree l.entry.app.0 l.entry.unit.0).stands place false ≡ get_or (unit_at l.initial.tree l.entry.app.0 l.entry.unit.0).stands place false;
+}

@@ -1,5 +1,0 @@
-use Rattle.place_pass.specs.DemandWalks.{IsPast}
-use Rattle.place_pass.proofs.wishes.place_behind.Given as goal
-
-abbrev pub invariant-loop-place : goal.invariant-loop-place
-invariant-loop-place l = IsPast l.entries l.place l.sought
