@@ -6,9 +6,10 @@ import tempfile
 
 from nodes.frames import ACK, AGENT, MASTER, bare_frame
 from nodes.hostile import Peer
-from nodes.wire import PEERS, dial, free_address
+from nodes.wire import PEERS, dial
 from shared.parties import text_of
 from shared.processes import Difference, Node, new_journal
+from shared.sites import free_address
 
 # So many rounds are told at once: their lines have room in the pipes.
 BATCH = 200

@@ -6,8 +6,9 @@ import time
 
 from nodes.frames import ACK, AGENT, MASTER, bare_frame
 from shared.processes import Difference, Node, new_journal
-from nodes.wire import dial, free_address, receive
+from nodes.wire import dial, receive
 from shared.parties import Party, Shape, text_of
+from shared.sites import free_address
 
 IDLE_ROUNDS = 2000
 JOBS, UNITS = 256, 8

@@ -9,9 +9,10 @@ from nodes.lines import Lines
 from nodes.masters import Master
 from nodes.packets import DELTA, DEMAND, FULL, GRANTS, Packet, padded
 from nodes.roles import Agent, App, hear_bytes
-from nodes.wire import MASTERS, PEERS, dial, free_address, receive
+from nodes.wire import PEERS, dial, receive
 from shared.parties import text_of
 from shared.processes import PATIENCE, Difference, Node
+from shared.sites import MASTERS, free_address
 
 UNITS = 2
 # So many rounds a node lives at most.

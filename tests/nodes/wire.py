@@ -7,16 +7,10 @@ import time
 from nodes.frames import has_end
 from shared.parties import text_of
 from shared.processes import PATIENCE, Difference
+from shared.sites import free_address
 
-# Peers dial at the first address, and masters listen at the second: no connection that goes out has a port of the second one, so the port of a
-# master that is down stays free.
-PEERS, MASTERS = "127.0.0.1", "127.0.0.2"
-
-
-def free_address():
-    """An address for masters at which nobody listens."""
-    with socket.create_server((MASTERS, 0)) as listener:
-        return listener.getsockname()
+# Where peers dial from. (Masters listen elsewhere: no connection that goes out has a port of their address, so that of a master that is down stays free.)
+PEERS = "127.0.0.1"
 
 
 def dial(address):

@@ -1,9 +1,11 @@
 """Commands to a living cluster, by a socket in its folder: one line, and its answer."""
 
+import contextlib
 import errno
 import fcntl
 import os
 import socket
+import time
 
 from shared.commands import NotDone, answered, checked, with_epoch
 from shared.line_faults import BAD_INPUT
@@ -11,6 +13,8 @@ from shared.processes import Difference
 
 # A node that is in a round answers once that has ended.
 TELL_SECONDS = 60.0
+# Who dials and says nothing for so long is let go, and so is who does not take its answer.
+SILENT_SECONDS, TAKE_SECONDS = 20.0, 5.0
 # The last line of an answer.
 STATUS = "status"
 PLAIN = ("help", "cluster", "avoided", "end")
@@ -24,12 +28,37 @@ HELP = [
 ]
 
 
+class Caller:
+    """Who has dialed: what it has said so far. Nobody waits for it."""
+
+    def __init__(self, side):
+        self.side, self.said, self.limit = side, b"", time.monotonic() + SILENT_SECONDS
+        side.setblocking(False)
+
+    def line(self):
+        """Its line once that is whole, or None; `OSError` where none comes any more."""
+        try:
+            piece = self.side.recv(65536)
+        except BlockingIOError:
+            if time.monotonic() > self.limit:
+                raise
+            return None
+        self.said += piece
+        if piece and b"\n" not in self.said:
+            return None
+        return self.said.partition(b"\n")[0].decode("latin-1").strip()
+
+    def tell(self, lines):
+        self.side.settimeout(TAKE_SECONDS)
+        self.side.sendall("".join(f"{it}\n" for it in lines).encode("latin-1", "replace"))
+
+
 class Listener:
     """The socket `control` of a folder: each that comes has one line, which `answer` answers by lines. The folder is locked for as long as the
     process runs, so a socket that stands there is one that a process left which was killed."""
 
     def __init__(self, folder, answer=None):
-        self.path, self.answer = os.path.join(folder, "control"), answer
+        self.path, self.answer, self.callers = os.path.join(folder, "control"), answer, []
         self.lock = lock_of(folder)
         if os.path.exists(self.path):
             os.remove(self.path)
@@ -39,29 +68,31 @@ class Listener:
         self.socket.setblocking(False)
 
     def serve(self):
-        """Answers who has come."""
-        while True:
-            try:
-                side, _ = self.socket.accept()
-            except BlockingIOError:
-                return
-            with side:
-                side.settimeout(1)
-                self.serve_one(side)
+        """Answers who has come, and has said its line."""
+        with contextlib.suppress(BlockingIOError):
+            while True:
+                self.callers.append(Caller(self.socket.accept()[0]))
+        self.callers = [it for it in self.callers if not self.is_served(it)]
 
-    def serve_one(self, side):
-        """The answer, and behind it a line `status N`: 0 where the command was done."""
+    def is_served(self, caller):
+        """Whether this one has its answer, or is gone. Behind the answer stands a line `status N`: 0 where the command was done."""
         try:
-            line = side.makefile(encoding="latin-1", newline="\n").readline().strip()
+            line = caller.line()
+            if line is None:
+                return False
             try:
                 lines, status = self.answer(line), 0
             except NotDone as why:
                 lines, status = why.lines, why.status
-            side.sendall("".join(f"{it}\n" for it in [*lines, f"{STATUS} {status}"]).encode("latin-1", "replace"))
+            caller.tell([*lines, f"{STATUS} {status}"])
         except OSError:
             pass
+        caller.side.close()
+        return True
 
     def close(self):
+        for it in self.callers:
+            it.side.close()
         self.socket.close()
         if os.path.exists(self.path):
             os.remove(self.path)

@@ -9,10 +9,10 @@ import urllib.error
 import urllib.request
 
 from shared.endings import leashed
-from shared.processes import Difference
+from shared.processes import PATIENCE, Difference
 
-# An answer of `fuxi lease` comes at once.
-LEASE_SECONDS = 10.0
+# An answer of `fuxi lease` comes once an epoch is on the disk.
+LEASE_SECONDS = PATIENCE
 # Epochs that are let go, for a file of masters that is older than that of the lease.
 MOST_PASSED = 10_000
 
@@ -62,7 +62,7 @@ class LeaseEpochs:
 
     def close(self):
         self.process.kill()
-        self.process.wait(5)
+        self.process.wait(PATIENCE)
 
 
 class EtcdEpochs:

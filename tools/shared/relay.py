@@ -11,8 +11,8 @@ from shared.starting import address_of
 # Of the frame that a peer says first: where its sender stands, a role in one byte and a number in four.
 ROLE_AT, NUMBER_AT, BEHIND = 6, 7, 11
 PIECE = 65536
-# A master listens from its first `serve` on, which it comes to at once.
-START_SECONDS = 10.0
+# A master listens from its first `serve` on, which it comes to at once where the machine has time for it.
+START_SECONDS = PATIENCE
 
 
 class Relay:

@@ -154,7 +154,8 @@ class MasterService(Service):
 
     def look(self):
         """Says when it serves, and begins without some machines where that is due."""
-        seconds = time.monotonic() - self.began
+        now = time.monotonic()
+        seconds = now - self.began
         try:
             lines = self.ask("show")
         except NotDone:
@@ -169,8 +170,8 @@ class MasterService(Service):
         if self.asked.begin_after is not None and seconds >= self.asked.begin_after:
             self.ask(f"begin {self.number}")
             self.log.say("begin", f"it begins, behind {seconds:.1f} s, though {names}", missing=missing)
-        elif time.monotonic() >= self.next_rebuilding:
-            self.next_rebuilding = time.monotonic() + REBUILDING_SECONDS
+        elif now >= self.next_rebuilding:
+            self.next_rebuilding = now + REBUILDING_SECONDS
             self.log.say("rebuilding", f"it is rebuilding, and grants nothing: {names}", missing=missing)
 
     def missing(self, lines):

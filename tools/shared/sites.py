@@ -11,18 +11,26 @@ import tempfile
 from shared.parties import text_of
 from shared.processes import Difference
 
-MASTERS = "127.0.0.2"
+# Where the masters of this process listen. No connection that goes out has a port of this address, and no other process has the address, so a port
+# that was free stays free.
+MASTERS = f"127.{64 + (os.getpid() >> 16) % 64}.{os.getpid() >> 8 & 255}.{os.getpid() & 255}"
 # The namespaces hang on a bridge; its address is that of the agents and applications.
 BRIDGE, NET, MOVING = "fuxi-br", "10.77.61", "10.77.61.100"
 PORT = 7000
 # Who has the namespaces holds a lock on this file, which goes with its process.
 LOCK = os.path.join(tempfile.gettempdir(), "fuxi-namespaces.lock")
+# The addresses that were given to masters of this process.
+given = set()
 
 
 def free_address():
-    """An address for masters at which nobody listens. No connection that goes out has a port of this address, so it stays free."""
-    with socket.create_server((MASTERS, 0)) as listener:
-        return listener.getsockname()
+    """An address for masters at which nobody listens, and that was not given before."""
+    while True:
+        with socket.create_server((MASTERS, 0)) as listener:
+            address = listener.getsockname()
+        if address not in given:
+            given.add(address)
+            return address
 
 
 def can_listen():
@@ -87,6 +95,8 @@ class Namespaces:
             ip("netns", "add", name)
             self.made.append(("netns", "del", name))
             ip("link", "add", f"{name}-out", "type", "veth", "peer", "name", "eth0", "netns", name)
+            # (by itself it would go with its namespace, which goes some time after it was deleted)
+            self.made.append(("link", "del", f"{name}-out"))
             ip("link", "set", f"{name}-out", "master", BRIDGE, "up")
             for words in [("link", "set", "lo", "up"), ("addr", "add", f"{NET}.{10 + site}/24", "dev", "eth0"), ("link", "set", "eth0", "up")]:
                 ip("-n", name, *words)
@@ -114,9 +124,9 @@ class Namespaces:
 
 def clear_left():
     """Takes away the namespaces and links of a cluster that was killed. (Who holds the lock knows that nobody has them.)"""
-    names = subprocess.run(["ip", "netns", "list"], capture_output=True, text=True).stdout
-    for name in re.findall(r"(?m)^fuxi-\d+\b", names):
-        subprocess.run(["ip", "netns", "del", name], capture_output=True)
     links = subprocess.run(["ip", "-o", "link"], capture_output=True, text=True).stdout
     for name in re.findall(rf"(?m)^\d+: ({BRIDGE}|fuxi-\d+-out)[@:]", links):
         subprocess.run(["ip", "link", "del", name], capture_output=True)
+    names = subprocess.run(["ip", "netns", "list"], capture_output=True, text=True).stdout
+    for name in re.findall(r"(?m)^fuxi-\d+\b", names):
+        subprocess.run(["ip", "netns", "del", name], capture_output=True)
