@@ -4,47 +4,45 @@ A schedule is drawn beside a run of it: what was sent is asked of the program (a
 the number of packets), so deliveries name packets that exist. That wants a program that writes what an event prints before it reads on.
 The questions are left out of the schedule. The same words and seed give the same schedule."""
 
+import os
 import random
-import subprocess
+import sys
 
-ASK = "deliver 18446744073709551615"
+sys.path.insert(0, os.path.join(os.path.dirname(os.path.dirname(os.path.abspath(__file__))), "tools"))
+
+from shared.driver import Driver  # noqa: E402
+from shared.parties import Shape  # noqa: E402
+
+# So many lines are told between two questions.
+BATCH = 64
 
 
 def cluster(machines, has=(2400, 98304), groups=1, quota=1.0):
-    each = ",".join('{"rack":%d,"has":[%d,%d]}' % (m // 16 % 64, *has) for m in range(machines))
-    limit = "[%d,%d]" % tuple(machines * amount for amount in has)
-    part = "[%d,%d]" % tuple(int(machines * amount * quota) for amount in has)
-    return '{"resources":2,"machines":[%s],"groups":[%s]}' % (each, ",".join('{"quota":%s,"limit":%s}' % (part, limit) for _ in range(groups)))
+    limit = tuple(machines * amount for amount in has)
+    part = tuple(int(machines * amount * quota) for amount in has)
+    return Shape([(machine // 16 % 64, has) for machine in range(machines)], [(part, limit)] * groups).line()
 
 
 class Drive:
     """A schedule as it is written, and a run of it."""
 
     def __init__(self, program, machines, path, **how):
-        self.machines, self.jobs, self.epoch, self.sent, self.lines = machines, {}, 0, 0, 0
-        self.file = open(path, "w", encoding="ascii")
-        self.run = subprocess.Popen([program, "replay"], stdin=subprocess.PIPE, stdout=subprocess.PIPE, text=True)
-        self.say(cluster(machines, **how))
+        self.machines, self.jobs, self.epoch, self.sent, self.lines = machines, {}, 0, 0, 1
+        self.file, self.run = open(path, "w", encoding="ascii"), Driver(program, cluster(machines, **how))
+        self.file.write(f"{cluster(machines, **how)}\n")
 
     def say(self, *lines):
         for line in lines:
-            self.file.write(line + "\n")
-            self.run.stdin.write(line + "\n")
+            self.file.write(f"{line}\n")
+            self.run.tell(line)
             self.lines += 1
-            if self.lines % 64 == 0:
+            if self.lines % BATCH == 0:
                 self.ask()
 
     def ask(self):
         """Reads what was printed so far, and learns how many packets were sent."""
-        self.run.stdin.write(ASK + "\n")
-        self.run.stdin.flush()
-        while True:
-            line = self.run.stdout.readline()
-            if line.startswith("refused NoPacket"):
-                self.sent = int(line.split()[2])
-                return
-            if not line:
-                raise SystemExit(f"the run ended at line {self.lines}")
+        self.run.ask()
+        self.sent = self.run.sent
 
     def deliver_from(self, first):
         self.ask()
@@ -87,9 +85,7 @@ class Drive:
 
     def end(self):
         self.file.close()
-        self.run.stdin.close()
-        self.run.stdout.read()
-        self.run.wait()
+        self.run.close()
 
 
 def sizes(count, priority=lambda u: u):

@@ -78,13 +78,13 @@ def shortened(value: object) -> str:
     return text if len(text) <= MOST_SHOWN else f"{text[: MOST_SHOWN // 2]} .. {text[-MOST_SHOWN // 2 :]}"
 
 
-def in_time(holds: Callable[[], object], patience: float = PATIENCE) -> bool:
+def in_time(holds: Callable[[], object], patience: float = PATIENCE, look_seconds: float = LOOK_SECONDS) -> bool:
     """Whether this comes to hold."""
     limit = time.monotonic() + patience
     while not holds():
         if time.monotonic() > limit:
             return False
-        time.sleep(LOOK_SECONDS)
+        time.sleep(look_seconds)
     return True
 
 

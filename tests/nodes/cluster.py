@@ -4,7 +4,7 @@ import copy
 import os
 from collections import Counter
 
-from nodes.hard_file import HardFile
+from model.hard_file import HardFile
 from nodes.wire import Wire
 from shared.parties import Party, text_of
 from shared.processes import Difference, Node, new_journal

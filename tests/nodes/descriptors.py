@@ -4,7 +4,7 @@ import os
 import socket
 import tempfile
 
-from nodes.frames import ACK, AGENT, MASTER, bare_frame
+from model.frames import ACK, AGENT, MASTER, bare_frame
 from nodes.hostile import Peer
 from nodes.wire import PEERS, dial
 from shared.parties import text_of

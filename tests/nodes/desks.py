@@ -4,10 +4,10 @@ import json
 
 from itertools import zip_longest
 
-from nodes.frames import ACK, AGENT, APP, END, MASTER
-from nodes.hard_file import HardState
-from nodes.masters import Master
-from nodes.packets import DELTA, FULL, read_frame
+from model.frames import ACK, AGENT, APP, END, MASTER
+from model.hard_file import HardState
+from model.masters import Master
+from model.packets import DELTA, FULL, read_frame
 from shared.parties import Shape
 from shared.processes import Difference
 

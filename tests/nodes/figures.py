@@ -4,7 +4,7 @@ import statistics
 import tempfile
 import time
 
-from nodes.frames import ACK, AGENT, MASTER, bare_frame
+from model.frames import ACK, AGENT, MASTER, bare_frame
 from shared.processes import Difference, Node, new_journal
 from nodes.wire import dial, receive
 from shared.parties import Party, Shape, text_of

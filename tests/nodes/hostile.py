@@ -3,16 +3,16 @@
 import socket
 import time
 
-from nodes.frames import ACK, AGENT, APP, END, MASTER
-from nodes.hard_file import HardState
+from model.frames import ACK, AGENT, APP, END, MASTER
+from model.hard_file import HardState
 from nodes.lines import Lines
-from nodes.masters import Master
-from nodes.packets import DELTA, DEMAND, FULL, GRANTS, Packet, padded
-from nodes.roles import Agent, App, hear_bytes
+from model.masters import Master
+from model.packets import DELTA, DEMAND, FULL, GRANTS, Packet, padded
+from model.roles import Agent, App, hear_bytes
 from nodes.wire import PEERS, dial, receive
 from shared.parties import text_of
 from shared.processes import PATIENCE, Difference, Node
-from shared.sites import MASTERS, free_address
+from shared.sites import free_address
 
 UNITS = 2
 # So many rounds a node lives at most.

@@ -8,7 +8,7 @@ import sys
 import tempfile
 import time
 
-from nodes.hard_file import HardState
+from model.hard_file import HardState
 from shared.control import tell
 from shared.crates import TOP
 from shared.epochs import LeaseEpochs

@@ -3,7 +3,7 @@
 import re
 import time
 
-from nodes.frames import ACK, AGENT, APP, BARE_LENGTH, END, MASTER, bare_frame, has_end, packets, sender, whole_frames
+from model.frames import ACK, AGENT, APP, BARE_LENGTH, END, MASTER, bare_frame, has_end, packets, sender, whole_frames
 from shared.processes import Difference
 
 # Where chance decides how far a master has come, it is killed after this many seconds at most.

@@ -2,9 +2,9 @@
 
 from collections import Counter
 
-from nodes.frames import ACK, AGENT, APP, END, MASTER
+from model.frames import ACK, AGENT, APP, END, MASTER
 from nodes.hostile import Draws
-from nodes.packets import DELTA, FULL, Packet, padded, read_frame
+from model.packets import DELTA, FULL, Packet, padded, read_frame
 from shared.parties import Shape
 
 # Machines are scarce: they hold a few units each, and the applications of the jobs want more.

@@ -19,7 +19,6 @@ KNOWN = {
     "Install": {"WantedBy"},
 }
 SET_CHILD_SUBREAPER = 36
-PATIENCE = 30.0
 
 
 class BadUnit(Exception):

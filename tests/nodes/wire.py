@@ -4,7 +4,7 @@ import socket
 import struct
 import time
 
-from nodes.frames import has_end
+from model.frames import has_end
 from shared.parties import text_of
 from shared.processes import PATIENCE, Difference
 from shared.sites import free_address

@@ -1,7 +1,7 @@
 """Lines that stand for several lines of a schedule, which depend on what has happened so far."""
 
+from shared.driver import Driver, NotTaken
 from shared.event_words import FORMS, JOB, MACHINE, head_of
-from shared.live import Live, NotTaken
 from shared.schedules import Cluster
 
 # A cluster that is left alone has nothing to tell any more after fewer rounds.
@@ -17,11 +17,15 @@ class Script:
     """A script over a running replay: each of its lines becomes plain lines, which are done at once."""
 
     def __init__(self, program, cluster_line):
+        self.live = Driver(program, cluster_line.text)
         try:
-            self.live = Live(program, cluster_line.text)
+            self.live.state_lines()
         except NotTaken as why:
             raise BadMacro(str(why)) from None
         self.cluster, self.open = Cluster(cluster_line), set()
+
+    def close(self):
+        self.live.close()
 
     def take(self, words):
         """The plain lines of a macro, each with what it printed."""
@@ -38,13 +42,13 @@ class Script:
 
     def each(self, lines):
         """Does plain lines, and answers each with what it printed."""
-        lines, before, first = list(lines), self.live.sent, len(self.live.lines)
+        before = self.live.sent
         try:
             done = self.live.take(lines)
         except NotTaken as why:
-            raise BadMacro(f"{lines[why.place - first]}: {why}") from None
+            raise BadMacro(f"{why.line}: {why}") from None
         self.open |= set(range(before + 1, self.live.sent + 1))
-        for line in lines:
+        for line, _ in done:
             self.note_delivered(line.split())
         return done
 

@@ -19,7 +19,7 @@ class Shape:
     def line(self):
         machines = [{"rack": rack, "has": has} for rack, has in self.machines]
         groups = [{"quota": quota, "limit": limit} for quota, limit in self.groups]
-        return json.dumps({"resources": self.resources, "machines": machines, "groups": groups})
+        return json.dumps({"resources": self.resources, "machines": machines, "groups": groups}, separators=(",", ":"))
 
 
 class Party:

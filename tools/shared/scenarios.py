@@ -44,6 +44,10 @@ class Player:
     def __init__(self, program):
         self.program, self.script = program, None
 
+    def close(self):
+        if self.script:
+            self.script.close()
+
     def play(self, block):
         """What a block prints: the plain lines that its macros stand for, and all that the program prints."""
         printed = []
@@ -56,6 +60,7 @@ class Player:
 
     def take(self, lines):
         if lines[0].text.startswith("{"):
+            self.close()
             self.script = Script(self.program, lines[0])
             return []
         if not self.script:

@@ -1,8 +1,11 @@
 """A schedule in which packets are named by the turn that sends them, to whom, and as which of those, so that lines can be left out: in a run of what is
 left each packet has the number that it has there."""
 
+import contextlib
+
+from shared.driver import Driver, NotTaken
 from shared.schedules import Line
-from shared.storms import PRINT, BadStorm, Replay
+from shared.storms import PRINT
 
 
 class Item:
@@ -49,8 +52,9 @@ class Names:
 
 def played(program, cluster, items, is_first=False):
     """The plain lines of these items. In the first run, of all of them, the packets get their names."""
-    run, names, lines = Replay(program, cluster), Names(), []
-    try:
+    names, lines = Names(), []
+    # (where the program ends over one of these lines, it does so in the run of them, too, and what is behind them says nothing)
+    with contextlib.suppress(NotTaken), Driver(program, cluster) as run:
         for item in items:
             if is_first and item.names_packets():
                 item.packets = names.named(item.words)
@@ -60,10 +64,5 @@ def played(program, cluster, items, is_first=False):
             lines.append(line)
             run.tell(line)
             if item.words[0] in PRINT:
-                names.take(item.place, run.printed())
-    except (BadStorm, BrokenPipeError):
-        # (the program ends over one of these lines: so it does in the run of them, and what is behind them says nothing)
-        pass
-    finally:
-        run.close()
+                names.take(item.place, run.ask())
     return lines

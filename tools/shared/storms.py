@@ -1,13 +1,10 @@
 """Storms of any size, drawn by a number: with the sizes and the chances that `fuxi storm` has, the events are the ones that it makes
 (docs/FORMATS.md, "A storm")."""
 
-import contextlib
-import json
 import random
-import signal
-import subprocess
 
-from shared.live import ANSWER, ASK
+from shared.driver import Driver
+from shared.parties import Shape
 
 DELIVER, TURN_MASTER, TURN_AGENT, TURN_APP, WANT, NEAR, BACK, RESTART = 3, 4, 5, 6, 7, 8, 9, 10
 KINDS, MOST_WANTED, MOST_NEAR, CALM_ROUNDS = 12, 41, 5, 8
@@ -15,46 +12,8 @@ KINDS, MOST_WANTED, MOST_NEAR, CALM_ROUNDS = 12, 41, 5, 8
 JOBS = ["0 5 100 400", "0 3 200 300", "1 4 50 700"]
 
 
-class BadStorm(Exception):
-    """The program takes no more lines, and why."""
-
-
-# Lines that print more than a refusal: whoever tells them reads what they print, before the pipe is full.
+# Lines that print more than a refusal.
 PRINT = ("turn", "deliver", "dump", "show", "judge")
-
-
-class Replay:
-    """A run that goes on: it is told lines, and says what they print and how many packets were sent."""
-
-    def __init__(self, program, cluster):
-        # (the program may end before all is read)
-        signal.signal(signal.SIGPIPE, signal.SIG_IGN)
-        self.ran = subprocess.Popen([program, "replay"], stdin=subprocess.PIPE, stdout=subprocess.PIPE, stderr=subprocess.PIPE, text=True)
-        self.tell(cluster)
-
-    def tell(self, line):
-        self.ran.stdin.write(f"{line}\n")
-
-    def printed(self):
-        """What was printed since this was asked last, and last the answer to it."""
-        lines = []
-        try:
-            self.tell(ASK)
-            self.ran.stdin.flush()
-            for line in self.ran.stdout:
-                lines.append(line)
-                if line.startswith(ANSWER):
-                    return lines
-        except BrokenPipeError:
-            pass
-        raise BadStorm(f"the program ends: {self.ran.stderr.read().strip()}")
-
-    def close(self):
-        self.ran.kill()
-        self.ran.wait()
-        for pipe in (self.ran.stdin, self.ran.stdout, self.ran.stderr):
-            with contextlib.suppress(BrokenPipeError):
-                pipe.close()
 
 
 class Storm:
@@ -66,9 +25,8 @@ class Storm:
 
     def cluster(self):
         count = self.machines
-        machines = [{"rack": machine // 2 % 64, "has": [1000, 4000]} for machine in range(count)]
-        groups = [{"quota": [500 * count, 2000 * count], "limit": [part * count, 4 * part * count]} for part in (1000, 750)]
-        return json.dumps({"resources": 2, "machines": machines, "groups": groups})
+        machines = [(machine // 2 % 64, [1000, 4000]) for machine in range(count)]
+        return Shape(machines, [([500 * count, 2000 * count], [part * count, 4 * part * count]) for part in (1000, 750)]).line()
 
     def draw(self, bound):
         self.x = (self.x * 6364136223846793005 + 1442695040888963407) % 2**64
@@ -76,16 +34,14 @@ class Storm:
 
     def lines(self, steps):
         """The cluster, and behind it each event."""
-        replay = Replay(self.program, self.cluster())
-        try:
+        with Driver(self.program, self.cluster()) as run:
             yield self.cluster()
             for line in self.events(steps):
-                replay.tell(line)
+                run.tell(line)
                 if line.startswith(PRINT):
-                    self.sent = int(replay.printed()[-1].split()[2])
+                    run.ask()
+                    self.sent = run.sent
                 yield line
-        finally:
-            replay.close()
 
     def events(self, steps):
         yield "master 1"

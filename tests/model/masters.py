@@ -1,8 +1,8 @@
 """A master by itself, as the rules of parties and of the scheduler have it: it places by trying all pairs."""
 
-from nodes.frames import AGENT, APP, END, ACK, MASTER
-from nodes.packets import FULL, Packet, Refused, fits, padded, patched_tally, row_change, tally_change, total
-from nodes.roles import Side
+from model.frames import AGENT, APP, END, ACK, MASTER
+from model.packets import FULL, Packet, Refused, fits, padded, patched_tally, row_change, tally_change, total
+from model.roles import Side
 
 GREATEST_PRIORITY = 9
 NO_GROUP = ((0,) * 8, (0,) * 8)

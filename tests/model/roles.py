@@ -1,7 +1,7 @@
 """An agent and an application by itself, as the rules of hearing and of parties have them: a model that knows nothing of the program."""
 
-from nodes.frames import ACK, AGENT, APP, END, MASTER
-from nodes.packets import DELTA, FULL, SHORT, Packet, Refused, fits, padded, patched_row, patched_tally, read_frame, tally_change, total
+from model.frames import ACK, AGENT, APP, END, MASTER
+from model.packets import DELTA, FULL, SHORT, Packet, Refused, fits, padded, patched_row, patched_tally, read_frame, tally_change, total
 
 MOST_FRAMES, MOST_KEPT, MOST_DELTAS = 4096, 256, 64
 

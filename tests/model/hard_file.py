@@ -3,7 +3,7 @@
 import os
 import time
 
-import checkpoint
+from model import checkpoints
 
 from shared.processes import Difference
 
@@ -16,7 +16,7 @@ FENCE_BYTES, JOB_BYTES, UNIT_BYTES, NUMBER_BYTES = 8, 9, 69, 4
 
 def unit_of(words):
     """The greatest number per machine of a unit, and then its priority and its quantities."""
-    most = checkpoint.GREATEST_COUNT
+    most = checkpoints.GREATEST_COUNT
     if words[-2] == "most":
         *words, _, most = words
     return [int(most), *map(int, words)]
@@ -88,7 +88,7 @@ class HardState:
             return "QuantityRange"
         if not any(quantities):
             return "ZeroSize"
-        return None if 1 <= most <= checkpoint.GREATEST_COUNT else "MostRange"
+        return None if 1 <= most <= checkpoints.GREATEST_COUNT else "MostRange"
 
     def finish(self, number):
         if number not in self.jobs:
@@ -126,7 +126,7 @@ class HardState:
         """What the reader of checkpoints says of its file."""
         lines = [f"fence {self.fence}, records {self.records}, bans" + "".join(f" {machine}" for machine in sorted(self.bans))]
         for number, job in sorted(self.jobs.items()):
-            units = (" / " + " ".join(map(str, unit + [0] * (9 - len(unit)))) + checkpoint.most_text(most) for most, *unit in job.units)
+            units = (" / " + " ".join(map(str, unit + [0] * (9 - len(unit)))) + checkpoints.most_text(most) for most, *unit in job.units)
             lines.append(f"  job {number} {job.group} {job.phase()}" + "".join(units))
         return lines
 
@@ -169,7 +169,7 @@ class HardFile:
     def look(self):
         """Finds out, by a reader of its own, what a master that was killed had done; from now on that is certain."""
         data = self.read()
-        found = checkpoint.read(data)
+        found = checkpoints.read(data)
         for state in self.states():
             if state.stored() == found:
                 return self.settle_on(state, len(data))

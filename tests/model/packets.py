@@ -2,7 +2,7 @@
 
 import struct
 
-from nodes.frames import ACK, AGENT, APP, END, MASTER
+from model.frames import ACK, AGENT, APP, END, MASTER
 
 DELTA, FULL = 2, 3
 LEAST_LENGTH, GREATEST_LENGTH = 44, 262_188
