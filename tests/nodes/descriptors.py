@@ -93,7 +93,7 @@ def compare_descriptors(program, shape, rounds):
             if before != after:
                 raise Difference(f"the open files were {before}, and behind {done} rounds they are {after}")
         except (Difference, OSError) as fault:
-            print(*journal, f"tests/hostile: {fault}", sep="\n")
+            print(*journal, f"tests/hostile_peers: {fault}", sep="\n")
             return False
         finally:
             for node in nodes:

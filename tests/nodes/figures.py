@@ -172,7 +172,7 @@ def print_figures(program):
             for measure in [idle_rounds, fill, whole_rows, whole_reports, endless_peer]:
                 measure(bench)
         except (Difference, OSError) as fault:
-            print(*bench.journal, f"tests/cluster: {fault}", sep="\n")
+            print(*bench.journal, f"tests/cluster_failures: {fault}", sep="\n")
             return 1
         finally:
             bench.close()

@@ -139,7 +139,7 @@ def serve_parties(program):
             processes[0] = start_party(program, folder, "master", address, "master")
             compare_parties([place for _, place in processes])
         except Difference as fault:
-            print(f"tests/cluster: {fault}", file=sys.stderr)
+            print(f"tests/cluster_failures: {fault}", file=sys.stderr)
             return False
         finally:
             for process, _ in processes:
@@ -161,7 +161,7 @@ def hears_nonsense(program):
             if process.wait(PATIENCE):
                 raise Difference(f"tools/cluster ends with status {process.returncode}")
         except Difference as fault:
-            print(f"tests/cluster: {fault}", file=sys.stderr)
+            print(f"tests/cluster_failures: {fault}", file=sys.stderr)
             return False
         finally:
             process.kill()
@@ -185,7 +185,7 @@ def live(program, seed):
                     compare(living, driver.model)
             living.end()
         except (Difference, OSError) as fault:
-            print("what was done last:", *living.journal, f"tests/cluster: a cluster that lives, seed {seed}: {fault}", sep="\n", file=sys.stderr)
+            print("what was done last:", *living.journal, f"tests/cluster_failures: a cluster that lives, seed {seed}: {fault}", sep="\n", file=sys.stderr)
             return False
         finally:
             living.close()
