@@ -9,6 +9,7 @@ from shared.logs import Losses
 from shared.parties import AGENT_ROLE
 from shared.schedules import Cluster, Line
 from shared.starting import address_of
+from shared.states import State
 
 # How long a command waits for a node that is in a round, and for a master before it gets a peer.
 MOST_BUSY, FREE_SECONDS = 20, 0.1
@@ -104,6 +105,31 @@ class Service:
 
     def work(self):
         """Whatever is due besides rounds."""
+
+
+class AgentService(Service):
+    """An agent: it has a command told what it enforces, where there is one."""
+
+    def __init__(self, *parts, rows=None):
+        super().__init__(*parts)
+        self.rows, self.is_changed = rows, False
+
+    def end_round(self):
+        line = super().end_round()
+        # (who hears but one packet has heard an acknowledgement)
+        self.is_changed |= line.startswith(ROUND_DONE) and int(line.split()[2]) > 1
+        return line
+
+    def work(self):
+        if not self.rows:
+            return
+        if self.is_changed and not self.is_waiting:
+            self.is_changed = False
+            agent = next(iter(State(self.ask("show")).agents.values()))
+            # (before it has taken a row of its master its table is empty, whatever runs on the machine)
+            if agent.has_row() or self.rows.wanted is not None:
+                self.rows.take(agent.rows)
+        self.rows.work()
 
 
 class MasterService(Service):

@@ -10,6 +10,10 @@ class Agent:
     def __init__(self, boot, place):
         self.boot, self.place, self.rows = boot, place, {}
 
+    def has_row(self):
+        """Whether it has taken a row of the master whose epoch its place names first."""
+        return int(self.place.split(".")[1]) > 0
+
 
 class App:
     def __init__(self, boot, place):
