@@ -112,7 +112,8 @@ def run(*words: str, text: str = "", top: str = TOP, **environment: str) -> tupl
 @contextlib.contextmanager
 def started(words: Sequence[str], **how: Any) -> Iterator[subprocess.Popen[str]]:
     """A process that has ended when the block has, however that ends."""
-    process = subprocess.Popen(words, **{"stdin": subprocess.DEVNULL, "text": True, **how})
+    given: dict[str, Any] = {"stdin": subprocess.DEVNULL, "text": True, **how}
+    process = subprocess.Popen(words, **given)
     try:
         yield process
     finally:

@@ -1,6 +1,9 @@
 """The lines that a node is told while it runs. A node that cannot read a line ends, so each is read here before a node gets it, by the program itself."""
 
+from __future__ import annotations
+
 import re
+from collections.abc import Sequence
 
 from shared.line_faults import BAD_INPUT, report
 from shared.programs import replay
@@ -22,12 +25,12 @@ NAMES = {"master": "a master", "agent": "an agent", "app": "an application"}
 class NotDone(Exception):
     """A command that was not done: what is answered, and the status of who asked."""
 
-    def __init__(self, lines, status=REFUSED):
+    def __init__(self, lines: list[str], status: int = REFUSED) -> None:
         super().__init__("\n".join(lines))
         self.lines, self.status = lines, status
 
 
-def with_epoch(line, epoch):
+def with_epoch(line: str, epoch: int) -> str:
     """A line of a master as it takes it. Its epoch may be `*`, or left out: a number in its place that can be a job is one."""
     words = line.split()
     if words[:3] == ["resync", "master", "*"]:
@@ -42,13 +45,13 @@ def with_epoch(line, epoch):
     return " ".join([head, str(epoch), *rest])
 
 
-def has_epoch(head, rest):
+def has_epoch(head: str, rest: Sequence[str]) -> bool:
     if head == "submit":
         return bool(rest) and rest[0].isdigit() and int(rest[0]) > GREATEST_JOB
     return len(rest) == BEHIND_EPOCH[head] + 1
 
 
-def checked(program, cluster_line, line, kind):
+def checked(program: str, cluster_line: str, line: str, kind: str) -> str:
     """The line, if a node of this kind takes it; else `NotDone` with what is wrong with it."""
     if is_skipped(line):
         raise NotDone(["the line says nothing"], BAD_INPUT)
@@ -63,7 +66,7 @@ def checked(program, cluster_line, line, kind):
     return line
 
 
-def answered(lines):
+def answered(lines: list[str]) -> list[str]:
     """What a node printed to a line, or that it is done."""
     if lines and lines[0].startswith("refused "):
         raise NotDone(lines)

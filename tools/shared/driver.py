@@ -54,6 +54,7 @@ class Driver:
         signal.signal(signal.SIGPIPE, signal.SIG_IGN)
         self.program, self.lines, self.sent, self.most_lines = program, [cluster_line], 0, most_lines
         self.process: subprocess.Popen[bytes] | None = None
+        self.is_open = False
         self.begin()
 
     def __enter__(self) -> Driver:
@@ -132,10 +133,9 @@ class Driver:
 
     def begin(self) -> None:
         """Starts the program, and hands it the lines so far."""
-        pipes = {"stdin": subprocess.PIPE, "stdout": subprocess.PIPE, "stderr": subprocess.PIPE}
-        self.process = subprocess.Popen([self.program, "replay"], bufsize=0, **pipes)
-        assert self.process.stdin and self.process.stdout
-        self.stdin, self.stdout = self.process.stdin.fileno(), self.process.stdout.fileno()
+        process = subprocess.Popen([self.program, "replay"], bufsize=0, stdin=subprocess.PIPE, stdout=subprocess.PIPE, stderr=subprocess.PIPE)
+        assert process.stdin and process.stdout
+        self.process, self.stdin, self.stdout = process, process.stdin.fileno(), process.stdout.fileno()
         os.set_blocking(self.stdin, False)
         self.unwritten, self.unread = bytearray(), b""
         self.groups: deque[Group] = deque()

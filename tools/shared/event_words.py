@@ -1,7 +1,10 @@
 """The words of event lines for those who write them: what stands at each place. (Which line is one is the program's to say.)"""
 
+from __future__ import annotations
+
 import difflib
 import re
+from collections.abc import Sequence
 
 EPOCH, BOOT = ("E", "an epoch: a number from 1 on"), ("B", "a boot: a number from 1 on")
 MACHINE, JOB, UNIT = ("M", "a machine: 0 to 255"), ("A", "a job: 0 to 255"), ("U", "a unit of the job: 0 to 7")
@@ -10,7 +13,7 @@ CHOICE, PACKET = ("X", "0 or 1"), ("K", "a packet: a number from 1 on")
 LAST = ("L", "the last packet: not before the first")
 
 # Behind the first word, or the first two.
-FORMS = {
+FORMS: dict[tuple[str, ...], list[tuple[str, str]]] = {
     ("master",): [EPOCH],
     ("stop",): [EPOCH],
     ("agent",): [MACHINE, BOOT],
@@ -73,31 +76,31 @@ REFUSALS = {
 }
 
 
-def head_of(words):
+def head_of(words: Sequence[str]) -> tuple[str, ...] | None:
     """The words of a line that tell which form it has."""
     return next((head for head in FORMS if tuple(words[: len(head)]) == head), None)
 
 
-def form_text(head):
+def form_text(head: tuple[str, ...]) -> str:
     letters = ["[L]" if place is LAST else place[0] for place in FORMS[head]]
     return " ".join([*head, *letters]) + TAILS.get(head[0], "")
 
 
-def form_of(words):
+def form_of(words: Sequence[str]) -> str | None:
     """The form of the line with these words, as its author should have it."""
     if words[0] == "halt" and len(words) > 3 and head_of(words[3:]):
-        return f"halt K X {form_text(head_of(words[3:]))}"
+        return f"halt K X {form_of(words[3:])}"
     head = head_of(words)
     return form_text(head) if head else None
 
 
-def meaning(words, place):
+def meaning(words: Sequence[str], place: int) -> str:
     """What has to stand at a place of a line, the first word being place 0."""
     if words[0] == "halt" and place >= 3:
         return meaning(words[3:], place - 3)
     head = head_of(words)
     behind = place - len(head) if head else -1
-    if behind < 0:
+    if head is None or behind < 0:
         return "a word that begins an event"
     if behind < len(FORMS[head]):
         return FORMS[head][behind][1]
@@ -105,14 +108,14 @@ def meaning(words, place):
     return MOST if before == "most" else PRIORITY if before == "/" or behind == len(FORMS[head]) else QUANTITY
 
 
-def unknown_place(words):
+def unknown_place(words: Sequence[str]) -> int:
     """Which word of a line the program does not know."""
     if words[0] == "halt" and len(words) > 3:
         return 3 + unknown_place(words[3:])
     return 1 if len(words) > 1 and any(head[0] == words[0] for head in FORMS) else 0
 
 
-def near_word(words, place):
+def near_word(words: Sequence[str], place: int) -> str | None:
     """A word that stands near the one at this place."""
     start = 3 if words[0] == "halt" and place >= 3 else 0
     known = {head[1] for head in FORMS if len(head) == 2} if place > start else {head[0] for head in FORMS}
@@ -120,7 +123,7 @@ def near_word(words, place):
     return found[0] if found else None
 
 
-def column_of(text, place):
+def column_of(text: str, place: int) -> tuple[int, int]:
     """Where a word begins, and how long it is; behind the last one where there are not so many."""
     found = list(re.finditer("[^ ]+", text))
     return (found[place].start(), len(found[place][0])) if place < len(found) else (len(text), 1)

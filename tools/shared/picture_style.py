@@ -1,5 +1,7 @@
 """Measures and colours of a picture, and what each colour means."""
 
+from __future__ import annotations
+
 # (words on a slant go out to the right of their column)
 LEFT, RIGHT, TOP_OF_LABELS = 165, 112, 4
 # So much room the state at the end has.
@@ -53,15 +55,15 @@ text { font-family: DejaVu Sans, Verdana, sans-serif; font-size: 11px; fill: #22
 """
 
 
-def word_style():
+def word_style() -> str:
     rules = [f".{word} {{ stroke: {colour} }} .head.{word} {{ fill: {colour}; stroke: none }}" for word, (colour, _, _) in WORDS.items()]
     dashes = [f".heard.{word}, .sample.{word} {{ stroke-dasharray: {dash} }}" for word, (_, dash, _) in WORDS.items() if dash]
     return " ".join([*rules, *dashes]) + " .heard.ack { stroke-width: 0.9 } .sample { fill: none; stroke-width: 1.6 }"
 
 
-def arrow_head(word):
+def arrow_head(word: str) -> str:
     return f'<marker id="{word}" viewBox="0 0 8 8" refX="7" refY="4" markerWidth="6" markerHeight="6" orient="auto"><path class="head {word}" d="M0 0.8 L8 4 L0 7.2 z"/></marker>'
 
 
-def hatch():
+def hatch() -> str:
     return '<pattern id="hatch" width="5" height="5" patternUnits="userSpaceOnUse" patternTransform="rotate(45)"><line x1="0" y1="0" x2="0" y2="5" class="hatched"/></pattern>'

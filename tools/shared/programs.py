@@ -1,5 +1,7 @@
 """Which program is run: the one that the environment names, the one that is built of the sources as they are, or one without its proof."""
 
+from __future__ import annotations
+
 import contextlib
 import functools
 import os
@@ -17,14 +19,14 @@ CLOCK_SECONDS = 0.05
 HOW_TO_BUILD = "`./{0} build` proves and builds it, once: half an hour to an hour on four processors, and it goes on where it was interrupted"
 
 
-def built_program():
+def built_program() -> str | None:
     """The built program, or another one that the environment names; None where there is none."""
     program = os.environ.get("FUXI") or program_of("fuxi")
     return program if os.access(program, os.X_OK) else None
 
 
 @functools.lru_cache(maxsize=None)
-def runnable():
+def runnable() -> str:
     """The program fuxi, for a tool."""
     named = os.environ.get("FUXI")
     if named and not os.access(named, os.X_OK):
@@ -32,7 +34,7 @@ def runnable():
     return named or current("fuxi")
 
 
-def replay(program, data):
+def replay(program: str, data: bytes) -> subprocess.CompletedProcess[bytes]:
     """The run of a schedule. (It reads a file and no pipe, so whoever feeds it meets no broken one where it ends before its input does.)"""
     with tempfile.TemporaryFile() as file:
         file.write(data)
@@ -40,7 +42,7 @@ def replay(program, data):
         return subprocess.run([program, "replay"], stdin=file, capture_output=True)
 
 
-def current(name):
+def current(name: str) -> str:
     """The program of the sources as they are. Where it is not built, standard error says that what runs is not proved."""
     program, moment = program_of(name), time.time() - CLOCK_SECONDS
     if not is_current(name, toolchain.version):
@@ -51,7 +53,7 @@ def current(name):
     return program
 
 
-def without_proof(name):
+def without_proof(name: str) -> str:
     stale = " for the sources as they are now" if os.path.exists(program_of(name)) else ""
     if not toolchain.is_there():
         fail(name, f"not built{stale}, and the command rt of the Rattle toolchain, which proves and builds, was not found (CONTRIBUTING.md says where it is from)")
@@ -62,5 +64,5 @@ def without_proof(name):
         fail(name, f"it cannot be compiled without its proof:\n{why}")
 
 
-def say(name, text):
+def say(name: str, text: str) -> None:
     print(f"{name}: {text}", file=sys.stderr, flush=True)

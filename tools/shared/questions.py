@@ -3,7 +3,7 @@
 from __future__ import annotations
 
 import ast
-from collections.abc import Callable, Iterable
+from collections.abc import Callable, Iterable, Mapping
 from typing import Any
 
 from shared.states import State
@@ -43,7 +43,7 @@ class Counts(int):
 
     table: dict[tuple[int, ...], int]
 
-    def __new__(cls, table: dict[tuple[int, ...], int]) -> Counts:
+    def __new__(cls, table: Mapping[Any, int]) -> Counts:
         made = super().__new__(cls, sum(table.values()))
         made.table = {place: count for place, count in table.items() if count}
         return made

@@ -1,9 +1,12 @@
 """A schedule run by the program, event by event, with the state behind each. All that is known of a run is the program's own text."""
 
+from __future__ import annotations
+
 import re
+from collections.abc import Iterable, Iterator
 
 from shared.programs import replay, runnable
-from shared.schedules import Cluster, Job, read_lines
+from shared.schedules import Cluster, Job, Line, read_lines
 from shared.states import State
 
 # A schedule that is read from standard input.
@@ -13,17 +16,17 @@ STREAM = "-"
 class BadRun(Exception):
     """The program did not run the whole schedule: its status, and its line on standard error."""
 
-    def __init__(self, status, said):
+    def __init__(self, status: int, said: str) -> None:
         super().__init__(said)
         self.status, self.said = status, said
 
 
-def read_file(path):
+def read_file(path: str) -> bytes:
     with open(0 if path == STREAM else path, "rb") as file:
         return file.read()
 
 
-def run_program(data):
+def run_program(data: bytes) -> tuple[int, list[str], str]:
     """The status, the lines of the output and the error text of a run."""
     ran = replay(runnable(), data)
     said = ran.stderr.decode(errors="replace").strip().splitlines()
@@ -33,23 +36,23 @@ def run_program(data):
 class Event:
     """A line of a schedule, what it printed, and the state behind it."""
 
-    def __init__(self, line, printed, state_lines):
+    def __init__(self, line: Line, printed: list[str], state_lines: list[str]) -> None:
         self.line, self.printed, self.state_lines = line, printed, state_lines
         self.refusal = next((it.split()[1:] for it in printed if it.startswith("refused ")), None)
 
-    def state(self):
+    def state(self) -> State:
         return State(self.state_lines)
 
 
 class Run:
     """A whole run: its cluster, its events, and the jobs that were submitted."""
 
-    def __init__(self, data):
+    def __init__(self, data: bytes) -> None:
         lines = read_lines(data)
         status, out, said = run_program("".join(f"{text}\n" for text in with_states(lines)).encode("latin-1"))
         if status:
             raise BadRun(status, in_own_numbers(said, lines))
-        self.cluster, self.events, at = Cluster(lines[0]), [], 0
+        self.cluster, self.events, at = Cluster(lines[0]), list[Event](), 0
         for count, line in enumerate(lines[1:], 1):
             behind = next(place for place in range(at, len(out)) if out[place].startswith("state "))
             end = next(place for place in range(behind, len(out)) if out[place].startswith("packets ")) + 1
@@ -58,7 +61,7 @@ class Run:
             self.events.append(Event(line, printed, state))
             at = end
 
-    def jobs(self):
+    def jobs(self) -> dict[int, Job]:
         """The jobs that were written, by their numbers: also one that was written by a master that stopped within it."""
         found = {}
         for event in self.events:
@@ -71,7 +74,7 @@ class Run:
         return found
 
 
-def with_states(lines):
+def with_states(lines: Iterable[Line]) -> Iterator[str]:
     """The lines, and behind each event that does not show the state itself one that does."""
     for place, line in enumerate(lines):
         yield line.text
@@ -79,7 +82,7 @@ def with_states(lines):
             yield "show"
 
 
-def in_own_numbers(said, lines):
+def in_own_numbers(said: str, lines: list[Line]) -> str:
     """The program's error with the number of the line in the schedule, in place of the one that it was given."""
     found = re.match(r"line (\d+): ", said)
     if not found:

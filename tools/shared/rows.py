@@ -58,7 +58,10 @@ class Rows:
         if self.wanted is None:
             return None
         changed = [row for row in sorted({*self.wanted, *self.done}) if self.number(row) != self.done.get(row, 0) and not self.has_to_wait(row)]
-        return min(changed, key=lambda row: self.number(row) > self.done.get(row, 0), default=None)
+        return sorted(changed, key=self.is_more)[0] if changed else None
+
+    def is_more(self, row: Row) -> bool:
+        return self.number(row) > self.done.get(row, 0)
 
     def number(self, row: Row) -> int:
         return (self.wanted or {}).get(row, 0)

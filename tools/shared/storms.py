@@ -1,7 +1,10 @@
 """Storms of any size, drawn by a number: with the sizes and the chances that `fuxi storm` has, the events are the ones that it makes
 (docs/FORMATS.md, "A storm")."""
 
+from __future__ import annotations
+
 import random
+from collections.abc import Iterable, Iterator
 
 from shared.driver import Driver
 from shared.parties import Shape
@@ -19,20 +22,20 @@ PRINT = ("turn", "deliver", "dump", "show", "judge")
 class Storm:
     """The lines of a storm, one by one."""
 
-    def __init__(self, program, seed, machines, jobs, loss, restarts):
+    def __init__(self, program: str, seed: int, machines: int, jobs: int, loss: float, restarts: int) -> None:
         self.seed, self.x, self.machines, self.jobs, self.loss, self.restarts = seed, seed, machines, jobs, loss, restarts
         self.fence, self.boots, self.program, self.sent = 1, [1] * machines, program, 0
 
-    def cluster(self):
+    def cluster(self) -> str:
         count = self.machines
         machines = [(machine // 2 % 64, [1000, 4000]) for machine in range(count)]
         return Shape(machines, [([500 * count, 2000 * count], [part * count, 4 * part * count]) for part in (1000, 750)]).line()
 
-    def draw(self, bound):
+    def draw(self, bound: int) -> int:
         self.x = (self.x * 6364136223846793005 + 1442695040888963407) % 2**64
         return self.x // 2**33 % bound
 
-    def lines(self, steps):
+    def lines(self, steps: int) -> Iterator[str]:
         """The cluster, and behind it each event."""
         with Driver(self.program, self.cluster()) as run:
             yield self.cluster()
@@ -43,7 +46,7 @@ class Storm:
                     self.sent = run.sent
                 yield line
 
-    def events(self, steps):
+    def events(self, steps: int) -> Iterator[str]:
         yield "master 1"
         yield from (f"agent {machine} 1" for machine in range(self.machines))
         yield from (f"submit 1 {job} {JOBS[job % len(JOBS)]}" for job in range(self.jobs))
@@ -55,7 +58,7 @@ class Storm:
             yield from self.heard([*(f"turn agent {it}" for it in range(self.machines)), *(f"turn app {it}" for it in range(self.jobs))])
         yield from self.heard([f"turn master {self.fence}"])
 
-    def step(self, kind):
+    def step(self, kind: int) -> Iterator[str]:
         if kind <= DELIVER:
             yield from self.delivery()
         elif kind == TURN_MASTER:
@@ -75,20 +78,20 @@ class Storm:
         else:
             yield from self.trouble(self.draw(10))
 
-    def delivery(self):
+    def delivery(self) -> Iterator[str]:
         if self.sent:
             packet = 1 + self.draw(self.sent)
             # (a packet that is lost is lost however often it is drawn)
             if random.Random(f"{self.seed} {packet}").random() * 100 >= self.loss:
                 yield f"deliver {packet}"
 
-    def restart(self, machine, number):
+    def restart(self, machine: int, number: int) -> Iterator[str]:
         # (of a hundred numbers these are the ones that are 0 modulo 10 where it is ten of them, as `fuxi storm` has it)
         if number % 10 * 10 + number // 10 < self.restarts:
             self.boots[machine] += 1
             yield f"agent {machine} {self.boots[machine]}"
 
-    def trouble(self, number):
+    def trouble(self, number: int) -> Iterator[str]:
         if number == 0:
             if self.fence >= 2:
                 yield f"stop {self.fence - 1}"
@@ -97,7 +100,7 @@ class Storm:
         elif number <= 3:
             yield f"{('preempt', 'begin', 'resync master')[number - 1]} {self.fence}"
 
-    def heard(self, turns):
+    def heard(self, turns: Iterable[str]) -> Iterator[str]:
         """Turns of which all packets arrive."""
         before = self.sent
         yield from turns

@@ -1,14 +1,18 @@
 """The streams of a tool: what it cannot write is an error of one line, and who stops reading is none."""
 
+from __future__ import annotations
+
 import os
 import signal
 import sys
+from collections.abc import Callable
+from typing import NoReturn
 
 # As the program has it.
 WRITE_FAULT = 5
 
 
-def run(name, main):
+def run(name: str, main: Callable[[], int]) -> NoReturn:
     """Runs a tool, and ends with its status once all is written."""
     signal.signal(signal.SIGPIPE, signal.SIG_DFL)
     try:
@@ -28,6 +32,6 @@ def run(name, main):
     sys.exit(status)
 
 
-def give_up_output():
+def give_up_output() -> None:
     """What still waits to be written goes nowhere."""
     os.dup2(os.open(os.devnull, os.O_WRONLY), sys.stdout.fileno())

@@ -2,6 +2,8 @@
 an unwrap, an access) and no proof, runs it over a folder of cases, and throws it away again. While a case runs, a copy of the program is taken. It
 is kept beside the libraries of a build, under the sum of all that it is made of."""
 
+from __future__ import annotations
+
 import fcntl
 import glob
 import os
@@ -9,6 +11,7 @@ import shutil
 import subprocess
 import tempfile
 import time
+from collections.abc import Callable
 
 from shared import kept, toolchain
 from shared.crates import TOP, sum_of
@@ -25,15 +28,15 @@ class NotMade(Exception):
     """There is no program, and what the toolchain said last."""
 
 
-def folder():
+def folder() -> str:
     return f"{kept.folder()}/unproved"
 
 
-def place(name):
+def place(name: str) -> str:
     return f"{folder()}/{name}-{sum_of(name, toolchain.version())[:32]}"
 
 
-def program(name, say):
+def program(name: str, say: Callable[[str], None]) -> str:
     """The program of the present sources without its proof. Where none is kept it is made, which takes a minute."""
     made = place(name)
     os.makedirs(folder(), exist_ok=True)
@@ -48,7 +51,7 @@ def program(name, say):
     return made
 
 
-def make(name, made):
+def make(name: str, made: str) -> None:
     with tempfile.TemporaryDirectory(prefix="fuxi-") as room:
         for part in ("cases", "runs"):
             os.mkdir(f"{room}/{part}")
@@ -68,7 +71,7 @@ def make(name, made):
     os.replace(f"{made}.new", made)
 
 
-def take(runs, copy):
+def take(runs: str, copy: str) -> bool:
     """Copies the program of a run, if there is one: it is whole once the file for its output stands beside it, and goes when the run has ended."""
     for output in glob.glob(f"{runs}/**/stdout", recursive=True):
         try:
@@ -80,12 +83,12 @@ def take(runs, copy):
     return False
 
 
-def last_lines(path):
+def last_lines(path: str) -> str:
     with open(path, encoding="utf-8", errors="replace") as said:
         return "".join(said.readlines()[-30:]).strip() or "rt try said nothing"
 
 
-def end(run):
+def end(run: subprocess.Popen[bytes]) -> None:
     """Ends `rt try`, which ends what it has started and takes its folder away."""
     run.terminate()
     try:
@@ -95,7 +98,7 @@ def end(run):
         run.wait()
 
 
-def forget_oldest():
+def forget_oldest() -> None:
     programs = sorted((it for it in os.scandir(folder()) if it.name != "lock"), key=lambda it: it.stat().st_mtime, reverse=True)
     for it in programs[MOST_KEPT:]:
         os.remove(it.path)
