@@ -1,5 +1,7 @@
 """Where the epochs of masters are from. Each is greater than all before it; who has the latest is the master."""
 
+from __future__ import annotations
+
 import base64
 import json
 import select
@@ -7,6 +9,7 @@ import subprocess
 import time
 import urllib.error
 import urllib.request
+from typing import Any, NoReturn, Union
 
 from shared.endings import leashed
 from shared.processes import PATIENCE, Difference
@@ -22,21 +25,23 @@ class LeaseEpochs:
 
     name = "fuxi lease"
 
-    def __init__(self, program, folder):
-        pipes = {"stdin": subprocess.PIPE, "stdout": subprocess.PIPE, "stderr": subprocess.DEVNULL, "text": True, "bufsize": 1, **leashed()}
-        self.process, self.holder = subprocess.Popen([program, "lease"], cwd=folder, **pipes), 0
+    def __init__(self, program: str, folder: str) -> None:
+        pipes: dict[str, Any] = {"stdin": subprocess.PIPE, "stdout": subprocess.PIPE, "stderr": subprocess.DEVNULL, "text": True, "bufsize": 1, **leashed()}
+        self.process: subprocess.Popen[str] = subprocess.Popen([program, "lease"], cwd=folder, **pipes)
+        assert self.process.stdin and self.process.stdout
+        self.stdin, self.stdout, self.holder = self.process.stdin, self.process.stdout, 0
 
-    def ask(self, line):
+    def ask(self, line: str) -> list[str]:
         try:
-            self.process.stdin.write(f"{line}\n")
-            self.process.stdin.flush()
+            self.stdin.write(f"{line}\n")
+            self.stdin.flush()
         except BrokenPipeError:
             raise Difference("`fuxi lease` has ended by itself") from None
-        if not select.select([self.process.stdout], [], [], LEASE_SECONDS)[0]:
+        if not select.select([self.stdout], [], [], LEASE_SECONDS)[0]:
             raise Difference(f"`fuxi lease` does not answer {line!r}")
-        return self.process.stdout.readline().split()
+        return self.stdout.readline().split()
 
-    def acquire(self, holder):
+    def acquire(self, holder: int) -> int | None:
         """The epoch, or None where somebody holds the lease."""
         self.holder = holder
         answer = self.ask(f"acquire {holder}")
@@ -44,23 +49,23 @@ class LeaseEpochs:
             raise Difference(f"`fuxi lease` refuses: {' '.join(answer)}")
         return int(answer[1]) if answer[0] == "granted" else None
 
-    def renew(self, epoch):
+    def renew(self, epoch: int) -> bool:
         return self.ask(f"renew {self.holder} {epoch}")[:1] == ["renewed"]
 
-    def expire(self, _epoch):
+    def expire(self, _epoch: int) -> None:
         self.ask("expire")
 
-    def passed(self, fence):
+    def passed(self, fence: int) -> None:
         """Epochs up to the fence are taken and let go, one after the other: the file of the masters is older than that of the lease."""
         if fence > MOST_PASSED:
             raise Difference(f"the file of the masters has the fence {fence}: its epochs are not from a lease, as the time is not, which tools/party takes")
-        while self.holder is not None:
-            epoch = self.acquire(0)
+        epoch = 0
+        while epoch < fence:
+            # (the tool's own process holds the lease, so none is held by another)
+            epoch = self.acquire(0) or epoch
             self.expire(epoch)
-            if epoch >= fence:
-                return
 
-    def close(self):
+    def close(self) -> None:
         self.process.kill()
         self.process.wait(PATIENCE)
 
@@ -71,10 +76,11 @@ class EtcdEpochs:
 
     name, key, seconds = "etcd", "/fuxi/master", 2
 
-    def __init__(self, endpoint):
-        self.endpoint, self.lease = endpoint, None
+    def __init__(self, endpoint: str) -> None:
+        self.endpoint = endpoint
+        self.lease: str | None = None
 
-    def call(self, path, **body):
+    def call(self, path: str, **body: object) -> Any:
         request = urllib.request.Request(f"{self.endpoint}/v3/{path}", json.dumps(body).encode())
         try:
             with urllib.request.urlopen(request, timeout=2) as answer:
@@ -82,10 +88,10 @@ class EtcdEpochs:
         except (urllib.error.URLError, OSError, ValueError) as why:
             raise Difference(f"no answer of etcd at {self.endpoint}: {why}") from None
 
-    def coded(self, text):
+    def coded(self, text: str) -> str:
         return base64.b64encode(text.encode()).decode()
 
-    def acquire(self, holder):
+    def acquire(self, holder: int) -> int | None:
         """The epoch, or None where somebody holds the key."""
         lease = self.call("lease/grant", TTL=str(self.seconds))["ID"]
         is_free = {"key": self.coded(self.key), "target": "CREATE", "create_revision": "0"}
@@ -97,22 +103,22 @@ class EtcdEpochs:
         self.lease = lease
         return int(answer["header"]["revision"])
 
-    def renew(self, _epoch):
+    def renew(self, _epoch: int) -> bool:
         """Whether the lease still lives, for some seconds more."""
         return int(self.call("lease/keepalive", ID=self.lease)["result"].get("TTL", 0)) > 0
 
-    def expire(self, _epoch):
+    def expire(self, _epoch: int) -> None:
         """Nothing: a lease of who is gone runs out by itself, and nobody takes the key before."""
 
-    def passed(self, fence):
+    def passed(self, fence: int) -> NoReturn:
         raise Difference(f"the file of the masters has the fence {fence}, which this etcd has not reached: it belongs to another etcd")
 
-    def close(self):
+    def close(self) -> None:
         if self.lease:
             self.call("lease/revoke", ID=self.lease)
 
 
-def wait_for_etcd(endpoint, seconds=20):
+def wait_for_etcd(endpoint: str, seconds: float = 20) -> Any:
     limit = time.monotonic() + seconds
     while True:
         try:
@@ -121,3 +127,7 @@ def wait_for_etcd(endpoint, seconds=20):
             if time.monotonic() > limit:
                 raise
             time.sleep(0.1)
+
+
+# Where epochs are from.
+Epochs = Union[LeaseEpochs, EtcdEpochs]

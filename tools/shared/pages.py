@@ -1,9 +1,13 @@
 """A run as one page of HTML: its picture, a slider over the events, and the state behind each as tables. Nothing of it is from elsewhere."""
 
+from __future__ import annotations
+
 import html
 import json
 import os
 import re
+
+from shared.pictures import Picture
 
 TEMPLATE = os.path.join(os.path.dirname(os.path.abspath(__file__)), "picture_page.html")
 # What stands behind each word of a state.
@@ -28,14 +32,14 @@ COLUMNS = {
 class Lines:
     """Lines of states, each of which stands once."""
 
-    def __init__(self):
-        self.numbers = {}
+    def __init__(self) -> None:
+        self.numbers: dict[str, int] = {}
 
-    def number(self, line):
+    def number(self, line: str) -> int:
         return self.numbers.setdefault(line, len(self.numbers))
 
 
-def page_of(picture, drawn):
+def page_of(picture: Picture, drawn: str) -> str:
     """The page of a picture that was drawn."""
     lines, events = Lines(), []
     for column, (at, event) in enumerate(picture.events):

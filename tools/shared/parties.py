@@ -38,6 +38,12 @@ class Party:
         self.wants: dict[int, int] = {}
         self.avoided: set[tuple[int, int]] = set()
 
+    @property
+    def running(self) -> Node:
+        """Its process, which it has once it was started."""
+        assert self.node
+        return self.node
+
     def words(self) -> list[object]:
         return [self.kind, self.number, self.boot, *self.units]
 

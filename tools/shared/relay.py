@@ -1,5 +1,7 @@
 """Hands connections on to a master that listens at another address, and tells of each from which party it came: the master itself does not say that."""
 
+from __future__ import annotations
+
 import contextlib
 import select
 import socket
@@ -16,15 +18,15 @@ START_SECONDS = PATIENCE
 
 
 class Relay:
-    def __init__(self, address, target):
+    def __init__(self, address: str, target: tuple[str, int]) -> None:
         host, port = address_of(address)
         family = socket.AF_INET6 if ":" in host else socket.AF_INET
         self.target, self.listener = target, socket.create_server((host, port), family=family, backlog=128)
 
-    def has_peer_within(self, seconds):
+    def has_peer_within(self, seconds: float) -> bool:
         return bool(select.select([self.listener], [], [], seconds)[0])
 
-    def carry(self):
+    def carry(self) -> tuple[int, int] | None:
         """Hands the connection that waits on to the master until one of both ends it: the role and the number of who dialed, as its first frame
         says."""
         peer, _ = self.listener.accept()
@@ -47,7 +49,7 @@ class Relay:
                         master.shutdown(socket.SHUT_WR)
         return (first[ROLE_AT], int.from_bytes(first[NUMBER_AT:BEHIND], "big")) if len(first) >= BEHIND else None
 
-    def master(self):
+    def master(self) -> socket.socket:
         limit = time.monotonic() + START_SECONDS
         while True:
             try:
@@ -57,5 +59,5 @@ class Relay:
                     raise Difference(f"the master does not listen: {why}") from None
                 time.sleep(0.005)
 
-    def close(self):
+    def close(self) -> None:
         self.listener.close()

@@ -1,12 +1,21 @@
 """One node with its timer: its rounds, its commands, and what is said of it."""
 
+from __future__ import annotations
+
+import argparse
 import socket
 import time
+from typing import Any
 
+from shared.absences import Absences
 from shared.commands import NAMES, TAKEN, NotDone, answered, checked, with_epoch
+from shared.control import Listener
 from shared.living import HANDOVER_BEFORE, ROUND_DONE
-from shared.logs import Losses
+from shared.logs import Log, Losses
 from shared.parties import AGENT_ROLE
+from shared.processes import Node
+from shared.relay import Relay
+from shared.rows import Rows
 from shared.schedules import Cluster, Line
 from shared.starting import address_of
 from shared.states import State
@@ -19,7 +28,7 @@ LOOK_SECONDS, REBUILDING_SECONDS = 1.0, 60.0
 WRITTEN = ("submit", "finish", "ban", "unban")
 
 
-def machines_of(cluster_line):
+def machines_of(cluster_line: str) -> range:
     """The numbers of the machines; none where the line says nothing that can be read, of which the node says what is wrong with it."""
     try:
         return range(len(Cluster(Line(1, cluster_line)).machines))
@@ -27,7 +36,7 @@ def machines_of(cluster_line):
         return range(0)
 
 
-def visit(address):
+def visit(address: str) -> None:
     """Dials an address, and leaves. Where nobody listens yet, the node says so by itself."""
     try:
         socket.create_connection(address_of(address), FREE_SECONDS).close()
@@ -38,13 +47,13 @@ def visit(address):
 class Service:
     """A node of any kind. `listener` is the socket for its commands, `log` takes what is said."""
 
-    def __init__(self, asked, node, number, cluster_line, listener, log):
+    def __init__(self, asked: argparse.Namespace, node: Node, number: int, cluster_line: str, listener: Listener, log: Log) -> None:
         self.asked, self.node, self.number, self.cluster_line, self.listener, self.log = asked, node, number, cluster_line, listener, log
-        self.program, self.kind, self.wait = node.program, asked.kind, asked.round / 1000
+        self.program, self.kind, self.wait = str(node.program), asked.kind, asked.round / 1000
         self.line, self.is_ended, self.is_waiting, self.visits, self.losses = "round", False, False, 0, Losses(log)
         listener.answer = self.answer
 
-    def answer(self, line):
+    def answer(self, line: str) -> list[str]:
         """A command: what it printed, or `NotDone`."""
         if line == "end":
             self.is_ended = True
@@ -55,15 +64,15 @@ class Service:
             return [f"{NAMES[self.kind]} takes {', '.join(TAKEN[self.kind])}; besides there are cluster, end and help"]
         return answered(self.ask(checked(self.program, self.cluster_line, self.completed(line), self.kind)))
 
-    def completed(self, line):
+    def completed(self, line: str) -> str:
         return line
 
-    def ask(self, line):
+    def ask(self, line: str) -> list[str]:
         """What the node prints to a line."""
         self.free()
         return self.node.ask(line)
 
-    def free(self):
+    def free(self) -> None:
         """Waits until the node reads lines again."""
         limit = time.monotonic() + MOST_BUSY
         while self.is_waiting:
@@ -74,10 +83,10 @@ class Service:
             else:
                 self.hasten()
 
-    def hasten(self):
+    def hasten(self) -> None:
         """Nothing: a round that an agent or an application began ends by itself."""
 
-    def end_round(self):
+    def end_round(self) -> str:
         line, self.is_waiting = self.node.next_line(), False
         if self.visits and not line.startswith(ROUND_DONE):
             self.visits -= 1
@@ -85,14 +94,14 @@ class Service:
             self.losses.take(line)
         return line
 
-    def run(self):
+    def run(self) -> None:
         while not self.is_ended and self.node.events < HANDOVER_BEFORE:
             self.round()
             self.listener.serve()
             self.work()
         self.log.say("end", "it was told to end" if self.is_ended else "it nears its limit on lines, and ends for the next one")
 
-    def round(self):
+    def round(self) -> None:
         if not self.is_waiting:
             self.node.tell(self.line)
             self.is_waiting = True
@@ -100,27 +109,27 @@ class Service:
             self.end_round()
             self.pause()
 
-    def pause(self):
+    def pause(self) -> None:
         time.sleep(self.wait)
 
-    def work(self):
+    def work(self) -> None:
         """Whatever is due besides rounds."""
 
 
 class AgentService(Service):
     """An agent: it has a command told what it enforces, where there is one."""
 
-    def __init__(self, *parts, rows=None):
+    def __init__(self, *parts: Any, rows: Rows | None = None) -> None:
         super().__init__(*parts)
         self.rows, self.is_changed = rows, False
 
-    def end_round(self):
+    def end_round(self) -> str:
         line = super().end_round()
         # (who hears but one packet has heard an acknowledgement)
         self.is_changed |= line.startswith(ROUND_DONE) and int(line.split()[2]) > 1
         return line
 
-    def work(self):
+    def work(self) -> None:
         if not self.rows:
             return
         if self.is_changed and not self.is_waiting:
@@ -135,26 +144,26 @@ class AgentService(Service):
 class MasterService(Service):
     """A master: it serves whoever comes, says when it serves all, and begins without some where it was told to."""
 
-    def __init__(self, *parts, relay=None, absences=None):
+    def __init__(self, *parts: Any, relay: Relay | None = None, absences: Absences | None = None) -> None:
         super().__init__(*parts)
         self.relay, self.absences, self.is_full = relay, absences, False
         self.machines, self.next_rebuilding = machines_of(self.cluster_line), time.monotonic() + LOOK_SECONDS
         self.line, self.is_serving, self.began, self.next_look, self.next_ban = "serve", False, time.monotonic(), 0.0, 0.0
 
-    def completed(self, line):
+    def completed(self, line: str) -> str:
         return with_epoch(line, self.number)
 
-    def round(self):
+    def round(self) -> None:
         """A master behind a relay serves once somebody has come, so it never waits for a peer."""
         if not self.relay:
             super().round()
         elif self.relay.has_peer_within(self.wait):
             self.node.tell(self.line)
             party = self.relay.carry()
-            if self.end_round().startswith(ROUND_DONE) and party and party[0] == AGENT_ROLE:
+            if self.end_round().startswith(ROUND_DONE) and party and party[0] == AGENT_ROLE and self.absences:
                 self.absences.note(party[1])
 
-    def answer(self, line):
+    def answer(self, line: str) -> list[str]:
         answer, words = super().answer(line), line.split()
         if self.absences and words[0] in ("ban", "unban"):
             self.absences.forget(int(words[-1]))
@@ -162,23 +171,23 @@ class MasterService(Service):
             self.absences.records += 1
         return answer
 
-    def hasten(self):
+    def hasten(self) -> None:
         """A master that waits for a peer gets one, that says nothing."""
         self.visits += 1
         visit(self.asked.address)
 
-    def pause(self):
+    def pause(self) -> None:
         pass
 
-    def work(self):
+    def work(self) -> None:
         if not self.is_serving and time.monotonic() >= self.next_look:
             self.next_look = time.monotonic() + LOOK_SECONDS
             self.look()
         if self.absences and time.monotonic() >= self.next_ban:
             self.next_ban = time.monotonic() + LOOK_SECONDS
-            self.lift_and_ban()
+            self.lift_and_ban(self.absences)
 
-    def look(self):
+    def look(self) -> None:
         """Says when it serves, and begins without some machines where that is due."""
         now = time.monotonic()
         seconds = now - self.began
@@ -200,28 +209,28 @@ class MasterService(Service):
             self.next_rebuilding = now + REBUILDING_SECONDS
             self.log.say("rebuilding", f"it is rebuilding, and grants nothing: {names}", missing=missing)
 
-    def missing(self, lines):
+    def missing(self, lines: list[str]) -> list[int]:
         """The machines that have not reported to it."""
         reported = {int(it.split()[2]) for it in lines if it.startswith("reported ")}
         return [it for it in self.machines if it not in reported]
 
-    def lift_and_ban(self):
+    def lift_and_ban(self, absences: Absences) -> None:
         """Bans machines whose agents are silent for too long, and lifts what it banned of those that are back."""
-        for machine in self.absences.to_lift():
-            self.absences.keep(machine, False)
-            self.write(f"unban {self.number} {machine}", "unban", f"machine {machine} is back, and its ban is lifted", machine)
-        for machine in self.absences.to_ban():
-            seconds = self.absences.silence(machine)
-            self.absences.keep(machine, True, time.time())
-            if not self.write(f"ban {self.number} {machine}", "ban", f"machine {machine} is banned: no round with its agent for {seconds:.0f} s", machine):
-                self.absences.keep(machine, False)
-        if self.absences.is_full() and not self.is_full:
+        for machine in absences.to_lift():
+            absences.keep(machine, False)
+            self.write(absences, f"unban {self.number} {machine}", "unban", f"machine {machine} is back, and its ban is lifted", machine)
+        for machine in absences.to_ban():
+            seconds = absences.silence(machine)
+            absences.keep(machine, True, time.time())
+            if not self.write(absences, f"ban {self.number} {machine}", "ban", f"machine {machine} is banned: no round with its agent for {seconds:.0f} s", machine):
+                absences.keep(machine, False)
+        if absences.is_full() and not self.is_full:
             self.is_full = True
             self.log.say("full", "it bans no machine any more: its file has too many records")
 
-    def write(self, line, event, text, machine):
+    def write(self, absences: Absences, line: str, event: str, text: str, machine: int) -> bool:
         """Whether the master has done a line that it writes."""
         said = self.ask(line)
-        self.absences.records += not said
+        absences.records += not said
         self.log.say(event, f"{text} ({said[0]})" if said else text, machine=machine)
         return not said

@@ -1,8 +1,11 @@
 """A running master at one moment: what it shows over its control socket, and of its jobs what its file says."""
 
-import os
+from __future__ import annotations
 
-from shared.checkpoints import MOST_RECORDS, Checkpoint
+import os
+from typing import Any
+
+from shared.checkpoints import MOST_RECORDS, Checkpoint, Job
 from shared.control import tell, unreached
 from shared.schedules import Cluster, Line
 from shared.starting import FILE
@@ -17,12 +20,12 @@ class NotSeen(Exception):
 class View:
     """What is shown: values for programs, and rows or lines for people."""
 
-    def __init__(self, values, rows=None, lines=None):
+    def __init__(self, values: Any, rows: list[tuple[object, ...]] | None = None, lines: list[str] | None = None) -> None:
         self.values, self.rows, self.lines = values, rows, lines
 
 
 class Snapshot:
-    def __init__(self, folder):
+    def __init__(self, folder: str) -> None:
         self.folder = folder
         self.state, self.cluster = State(self.told("show")), Cluster(Line(1, self.told("cluster")[0]))
         if not self.state.masters:
@@ -38,7 +41,7 @@ class Snapshot:
             unit.size = unit.size[: self.cluster.resources]
         self.pairs = self.read_avoided()
 
-    def told(self, command):
+    def told(self, command: str) -> list[str]:
         try:
             status, said = tell(self.folder, command)
         except OSError as why:
@@ -47,7 +50,7 @@ class Snapshot:
             raise NotSeen(said.strip())
         return said.splitlines()
 
-    def read_avoided(self):
+    def read_avoided(self) -> dict[int, set[tuple[int, int]]] | None:
         """The pairs of unit and machine that a job avoids, by job; None where that is not known: a master does not show it."""
         try:
             found = [tuple(map(int, it.split()[1:])) for it in self.told("avoided")]
@@ -57,28 +60,28 @@ class Snapshot:
 
     # What a wait is explained by.
 
-    def jobs(self):
+    def jobs(self) -> dict[int, Job]:
         return self.file.jobs
 
-    def by(self, _epoch, job):
+    def by(self, _epoch: int, job: int) -> set[tuple[int, int]]:
         return (self.pairs or {}).get(job, set())
 
-    def waits_of(self, job):
+    def waits_of(self, job: int) -> dict[int, int]:
         return {unit: count for (of, unit), count in self.master.waits.items() if of == job}
 
-    def grants_of(self, job, unit):
+    def grants_of(self, job: int, unit: int) -> dict[int, int]:
         """The counts of a unit by machine."""
         return {machine: count for (of, which, machine), count in self.master.grants.items() if (of, which) == (job, unit)}
 
 
-def phase_of(job):
+def phase_of(job: Job) -> str:
     return "live" if job.is_live else "ended"
 
 
-def status(seen):
+def status(seen: Snapshot) -> View:
     """How the master fares, in a few numbers."""
     live = sum(job.is_live for job in seen.file.jobs.values())
-    values = {
+    values: dict[str, Any] = {
         "master": seen.epoch,
         "phase": seen.master.phase,
         "machines": len(seen.cluster.machines),
@@ -91,7 +94,7 @@ def status(seen):
         "records": len(seen.file.records),
     }
     banned = f", banned {' '.join(map(str, values['banned']))}" if values["banned"] else ""
-    rows = [
+    rows: list[tuple[object, ...]] = [
         ("master", f"{seen.epoch}, {seen.master.phase}"),
         ("machines", f"{values['machines']}, of which {values['reported']} are reported{banned}"),
         ("jobs", f"{live} live, {values['ended']} ended, of 256 numbers"),
@@ -101,9 +104,10 @@ def status(seen):
     return View(values, rows)
 
 
-def machines(seen):
+def machines(seen: Snapshot) -> View:
     """What each machine has, and what the master's grants take of it."""
-    values, rows = [], [("machine", "rack", "reported", "banned", "granted of what it has", "jobs")]
+    values: list[dict[str, Any]] = []
+    rows: list[tuple[object, ...]] = [("machine", "rack", "reported", "banned", "granted of what it has", "jobs")]
     for machine, (rack, has) in enumerate(seen.cluster.machines):
         used = used_on(seen.master, seen.file.jobs, machine) or [0] * len(has)
         jobs = sorted({job for (job, _, at), count in seen.master.grants.items() if at == machine and count})
@@ -113,9 +117,10 @@ def machines(seen):
     return View(values, rows)
 
 
-def jobs(seen):
+def jobs(seen: Snapshot) -> View:
     """What each unit of each job has, and waits for."""
-    values, rows = [], [("job", "group", "", "unit", "priority", "size", "granted", "waits for", "on machines")]
+    values: list[dict[str, Any]] = []
+    rows: list[tuple[object, ...]] = [("job", "group", "", "unit", "priority", "size", "granted", "waits for", "on machines")]
     for number, job in sorted(seen.file.jobs.items()):
         waits, units = seen.waits_of(number), []
         for place, unit in enumerate(job.units):
@@ -127,7 +132,7 @@ def jobs(seen):
     return View(values, rows)
 
 
-def why(seen, job):
+def why(seen: Snapshot, job: int) -> View:
     """Why the units of a job wait, in the words of explain."""
     if job not in seen.file.jobs:
         raise NotSeen(f"the master knows no job {job}")
@@ -140,5 +145,5 @@ def why(seen, job):
     return View({"job": job, "waits": {str(unit): count for unit, count in seen.waits_of(job).items()}, "lines": lines}, lines=lines)
 
 
-def yes(is_so):
+def yes(is_so: bool) -> str:
     return "yes" if is_so else "no"

@@ -1,5 +1,7 @@
 """What a node needs before it starts, tested one by one: the node itself says of all of it no more than that its disk or its round failed."""
 
+from __future__ import annotations
+
 import errno
 import fcntl
 import ipaddress
@@ -17,12 +19,12 @@ FORM = "an address is an IP address and a port, as 10.0.0.5:7000 or [::1]:7000"
 class NotStarted(Exception):
     """What is missing, and the status with which that ends."""
 
-    def __init__(self, why, status=NOT_THERE):
+    def __init__(self, why: str, status: int = NOT_THERE) -> None:
         super().__init__(why)
         self.status = status
 
 
-def address_of(text):
+def address_of(text: str) -> tuple[str, int]:
     """The IP address and the port of an address as the program reads it."""
     host, colon, port = text.rpartition(":")
     if not colon or "]" in port:
@@ -39,7 +41,7 @@ def address_of(text):
     return bare, int(port)
 
 
-def listens_at(address):
+def listens_at(address: str) -> None:
     """Whether a master could listen there."""
     host, port = address_of(address)
     family = socket.AF_INET6 if ":" in host else socket.AF_INET
@@ -53,17 +55,17 @@ def listens_at(address):
                 errno.EADDRNOTAVAIL: "this machine does not have the address",
                 errno.EACCES: "this user may not listen at the port",
             }
-            raise NotStarted(f"{address}: {said.get(why.errno, why.strerror)}") from None
+            raise NotStarted(f"{address}: {said.get(why.errno or 0, why.strerror)}") from None
 
 
-def folder_is_there(folder):
+def folder_is_there(folder: str) -> None:
     if not os.path.isdir(folder):
         raise NotStarted(f"{folder} is no folder that can be written into: there is no such folder")
     if not os.access(folder, os.W_OK | os.X_OK):
         raise NotStarted(f"{folder} is no folder that can be written into by this user")
 
 
-def file_of(folder, takes_it):
+def file_of(folder: str, takes_it: bool) -> Checkpoint:
     """What the file of a master holds, if it can be opened, nobody has it, and it is neither damaged nor odd."""
     path = os.path.join(folder, FILE)
     room = os.statvfs(folder)
