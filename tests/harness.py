@@ -9,7 +9,7 @@ import subprocess
 import sys
 import time
 from collections.abc import Callable, Iterator, Sequence
-from typing import Any
+from typing import IO, Any
 
 TOP = os.path.dirname(os.path.dirname(os.path.abspath(__file__)))
 TOOLS = f"{TOP}/tools"
@@ -107,6 +107,12 @@ def run(*words: str, text: str = "", top: str = TOP, **environment: str) -> tupl
     """The status, the output and the error text of a command that is run in this checkout, or in another folder."""
     ran = subprocess.run(words, input=text, capture_output=True, text=True, timeout=5 * PATIENCE, cwd=top, env={**os.environ, **environment})
     return ran.returncode, ran.stdout, ran.stderr
+
+
+def pipe_of(pipe: IO[str] | None) -> IO[str]:
+    """A pipe of a process that was started with it."""
+    assert pipe
+    return pipe
 
 
 @contextlib.contextmanager
