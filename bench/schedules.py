@@ -17,10 +17,13 @@ from shared.parties import Shape  # noqa: E402
 BATCH = 64
 
 
-def cluster(machines, has=(2400, 98304), groups=1, quota=1.0):
-    limit = tuple(machines * amount for amount in has)
-    part = tuple(int(machines * amount * quota) for amount in has)
-    return Shape([(machine // 16 % 64, has) for machine in range(machines)], [(part, limit)] * groups).line()
+def cluster(machines, has=(2400, 98304), groups=1, quota=1.0, limit=1.0, uneven=0.0, per_rack=16):
+    shares = [1 + uneven * (2 * group + 1 - groups) / groups for group in range(groups)]
+
+    def part(times):
+        return tuple(int(machines * amount * times) for amount in has)
+
+    return Shape([(machine // per_rack % 64, has) for machine in range(machines)], [(part(quota * share), part(limit * share)) for share in shares]).line()
 
 
 class Drive:
@@ -43,6 +46,10 @@ class Drive:
         """Reads what was printed so far, and learns how many packets were sent."""
         self.run.ask()
         self.sent = self.run.sent
+
+    def state(self):
+        """The lines of the present state, which stand in no schedule."""
+        return self.run.state_lines()
 
     def deliver_from(self, first):
         self.ask()
@@ -71,7 +78,7 @@ class Drive:
         self.say(f"master {self.epoch}")
 
     def submit(self, job, units, group=0):
-        text = " / ".join(f"{priority} {cores} {memory}" for priority, cores, memory in units)
+        text = " / ".join(" ".join(map(str, numbers)) for numbers in units)
         self.say(f"submit {self.epoch} {job} {group} {text}", f"app {job} 1")
         self.jobs[job] = len(units)
 
@@ -197,6 +204,37 @@ def preemptions(d, draw, lines):
         d.turns(f"master {d.epoch}")
 
 
+def held(d):
+    """By job what its application holds: unit, machine and number."""
+    holds = {job: [] for job in d.jobs}
+    for line in d.state():
+        if line.startswith("hold "):
+            job, unit, machine, count = map(int, line.split()[1:])
+            holds[job].append((unit, machine, count))
+    return holds
+
+
+def contended(d, draw, lines):
+    """Eight groups within quotas and limits, demands that rise and give back, and preemptions, most of which find nothing while hundreds of
+    units wait."""
+    kinds = [(draw.choice(range(10)), draw.choice((50, 100, 200, 400, 800)), draw.choice((1024, 4096, 12288, 32768)), draw.choice((1, 5, 20, 60))) for _ in range(128 * 8)]
+    d.begin(128, lambda job: kinds[8 * job : 8 * job + 8], lambda job: job % 8)
+    holds = held(d)
+    while d.lines < lines:
+        jobs = draw.sample(range(128), 9)
+        for job in jobs:
+            d.say(f"want {job} {draw.randrange(8)} {draw.randrange(14)}")
+        for job in draw.sample(jobs, 7):
+            if holds[job]:
+                unit, machine, count = draw.choice(holds[job])
+                d.say(f"back {job} {unit} {machine} {draw.randrange(1, count + 1)}")
+        d.turns(*(f"app {job}" for job in jobs))
+        d.say(*(f"preempt {d.epoch}" for _ in range(12)))
+        if draw.random() < 0.05:
+            d.round() if draw.random() < 0.2 else d.turns(f"master {d.epoch}")
+            holds = held(d)
+
+
 def demand(d, draw, lines):
     """One demand that gives 2,048 grants back, one on each of 256 machines of each of 8 units, and wants them again."""
     d.begin(1, lambda job: [(u, 1, 1) for u in range(8)])
@@ -233,6 +271,7 @@ KINDS = {
     "failovers": (failovers, 64, 178_000, {}),
     "placing": (placing, 256, 13_000, {}),
     "preemptions": (preemptions, 64, 21_000, {"groups": 4, "quota": 0.3}),
+    "contended": (contended, 128, 100_000, {"has": (2400, 98304, 200), "per_rack": 4, "groups": 8, "quota": 0.12, "limit": 0.25, "uneven": 0.7}),
     "demand": (demand, 256, 0, {}),
     "wants": (wants, 1, 1_000_000, {}),
     "heard": (heard, 1, 1_000_000, {}),

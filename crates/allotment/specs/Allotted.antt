@@ -14,8 +14,10 @@ use Rattle.spec_roles.specs.Placing.{has_pair, line_after}
 use Rattle.grant_table.specs.GrantTables.{TableRecord, IsSound, with_count}
 use Rattle.grant_table.specs.declared.asking.Pick.{Pick}
 use Rattle.place_pass.specs.Best.{spot_of}
-use Rattle.place_pass.specs.Placers.{PlacerRecord, SeenRecord, ToldRecord, IsLevelWith, asks_seen, line_told, told_of}
+use Rattle.place_pass.specs.Placers.{PlacerRecord, SeenRecord, ToldRecord, IsLevelWith, asks_seen, line_told, told_of, usable_in}
+use Rattle.preempt.specs.declared.learned.Learned.{Learned}
 use Rattle.preempt.specs.declared.plan.Victim.{Victim}
+use Rattle.preempt.specs.Learning.{IsTrue}
 use Rattle.preempt.specs.Plans.{without_victims}
 use Rattle.allotment.specs.PlacingReads.{IsPlacing}
 use Rattle.allotment.specs.SettlingRuns.{AreTouched}
@@ -29,10 +31,11 @@ pub record AllotmentRecord : Type 0 where
 abbrev pub allotment_record : TableRecord → PlacerRecord → List Pick → AllotmentRecord
 allotment_record t p touched = record { table = t; placer = told_of p; touched = map spot_of touched }
 
--- the placer is level with the table
-pub record IsAllotment (t : TableRecord) (p : PlacerRecord) : Type 0 where
+-- the placer is level with the table, and what searches for victims found out is true of both
+pub record IsAllotment (t : TableRecord) (p : PlacerRecord) (l : Learned) : Type 0 where
   pub level : IsLevelWith p t
   pub sound : IsSound t
+  pub learned : IsTrue t (usable_in p.seen) p.seen.line l
 
 -- it stands for what placing reads of a master
 pub record Allots (x : AllotmentRecord) (c : ClusterRecord) (M : Master) : Type 0 where

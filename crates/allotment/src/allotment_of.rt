@@ -9,7 +9,7 @@ use fuxi_terms::{Key, OutOfMemory};
 use grant_table::{GrantTable, Pick, Steps};
 use party_ledgers::{Demand, Grants, RowLedger};
 use place_pass::Placer;
-use preempt::{Plan, Victims, find};
+use preempt::{Learned, Plan, Victims, find_from};
 use schedule_unit::{AppNo, Job, MachineNo, UnitNo};
 use std::alloc::Global;
 use std::marker::Model;
@@ -24,6 +24,8 @@ pub struct Allotment {
     table: GrantTable,
     placer: Placer,
     touched: Vec<Pick>,
+    /// What a search for victims found out, as long as nothing changes.
+    learned: Learned,
 }
 
 // Written out, so that who lets one go checks this call and not all of its parts.
@@ -33,6 +35,7 @@ impl Drop for Allotment {
             table,
             placer,
             touched,
+            learned,
         } = self;
     }
 }
@@ -44,7 +47,7 @@ impl Model for Allotment {
 
     ghost view = { λ x. allotment_record x.table x.placer x.touched.items };
 
-    ghost invariant = { λ x. IsAllotment x.table x.placer };
+    ghost invariant = { λ x. IsAllotment x.table x.placer x.learned };
 }
 
 impl Allotment {
@@ -91,6 +94,7 @@ impl Allotment {
             table,
             placer,
             touched: Vec::new(alloc),
+            learned: Learned::nothing(),
         })
     }
 
@@ -111,6 +115,7 @@ impl Allotment {
             table,
             placer,
             touched,
+            learned,
         } = self;
         let (mut table, mut placer) = (table, placer);
         table.admit(alloc, job)?;
@@ -120,6 +125,7 @@ impl Allotment {
             table,
             placer,
             touched,
+            learned: Learned::nothing(),
         })
     }
 
@@ -136,6 +142,7 @@ impl Allotment {
         ensures idle { self.new.placer.idle ≡ (self.old.placer.idle && (not usable || is_open self.old.placer.seen machine.0)) }
     {
         place_pass::law::levels();
+        self.learned = Learned::nothing();
         self.placer.open(machine, usable);
     }
 
@@ -152,6 +159,7 @@ impl Allotment {
         ensures idle { AsksNoMore (asks_seen self.old.placer.seen) (asks_seen self.new.placer.seen) app.0 → self.new.placer.idle ≡ self.old.placer.idle }
     {
         place_pass::law::levels();
+        self.learned = Learned::nothing();
         match changes {
             Some(changes) => self.placer.asked_changes(&self.table, app, demand, changes),
             None => self.placer.asked(&self.table, app, demand),
@@ -184,6 +192,7 @@ impl Allotment {
         place_pass::law::levels();
         grant_table::law::set_numbers();
         self.touched.push(Pick { app, unit, machine })?;
+        self.learned = Learned::nothing();
         self.table.take(app, unit, machine, count);
         self.placer.changed(&self.table, app, unit, machine);
         self.table.is_sound();
@@ -368,6 +377,7 @@ impl Allotment {
         ensures idle { self.new.placer.idle ≡ self.old.placer.idle }
     {
         place_pass::law::levels();
+        self.learned = Learned::nothing();
         self.placer.line_up(&self.table);
     }
 
@@ -384,33 +394,35 @@ impl Allotment {
         ensures idle { self.old.placer.idle ≡ true → steps.new ≡ steps.old }
         ensures same { OnOk result (self.old.placer.idle ≡ true → self.new ≡ self.old) }
     {
+        self.learned = Learned::nothing();
         settle(&mut self.table, &mut self.placer, steps, &mut self.touched)?;
         Ok(())
     }
 
     /// The plan of the first pair that has victims, and `None` exactly where no pair has any. The line is up to date.
-    /// Where memory is refused it answers neither.
+    /// Where memory is refused it answers neither. It changes nothing but what is known of who has victims.
     pub fn plan<L: Ledger>(
-        &self,
+        &mut self,
         alloc: Global,
         steps: &mut Steps<L>,
     ) -> Result<Option<Plan>, OutOfMemory>
-        requires { IsUpToDate self.now.placer.seen self.now.table }
-        ensures plan { IfOk result (λ found. (c : ClusterRecord) (M : Master) → Allots self.now c M → option_map plan_as found ≡ plan_of c M) }
-        ensures made { IfOk result (λ found. IfSome found (CanBeMade self.now.table)) }
-        ensures few { IfOk result (λ found. IfSome found (λ plan. held_on self.now.table.entries plan.pick.app.0 plan.pick.unit.0 plan.pick.machine.0 < 100000)) }
+        requires { IsUpToDate self.old.placer.seen self.old.table }
+        ensures same { self.new ≡ self.old }
+        ensures plan { IfOk result (λ found. (c : ClusterRecord) (M : Master) → Allots self.old c M → option_map plan_as found ≡ plan_of c M) }
+        ensures made { IfOk result (λ found. IfSome found (CanBeMade self.old.table)) }
+        ensures few { IfOk result (λ found. IfSome found (λ plan. held_on self.old.table.entries plan.pick.app.0 plan.pick.unit.0 plan.pick.machine.0 < 100000)) }
     {
         place_pass::law::levels();
         preempt::law::lines();
         preempt::law::planning();
-        match find(alloc, &self.table, &self.placer, steps)? {
-            Some(plan) => {
-                let pick = plan.pick;
-                let _outstanding = self.placer.outstanding(&self.table, pick.app, pick.unit);
-                Ok(Some(plan))
-            }
-            None => Ok(None),
-        }
+        let learned = &mut self.learned;
+        let found = find_from(alloc, &self.table, &self.placer, learned, steps)?;
+        let Some(plan) = found else {
+            return Ok(None);
+        };
+        let pick = plan.pick;
+        let _outstanding = self.placer.outstanding(&self.table, pick.app, pick.unit);
+        Ok(Some(plan))
     }
 
     // The victims on a machine are taken, unit by unit.
@@ -440,6 +452,7 @@ impl Allotment {
         place_pass::law::levels();
         grant_table::law::set_numbers();
         self.touched.push(pick)?;
+        self.learned = Learned::nothing();
         self.table.add(pick.app, pick.unit, pick.machine, count);
         self.placer
             .changed(&self.table, pick.app, pick.unit, pick.machine);

@@ -7,3 +7,4 @@ pub mod Walks
 pub mod Shelves
 pub mod MachineRooms
 pub mod Search
+pub mod Learning

@@ -4,6 +4,7 @@
 
 mod entry;
 pub mod law;
+mod learned;
 mod machine_grants;
 mod need;
 mod number;
@@ -16,5 +17,6 @@ mod snapshot;
 mod victims;
 mod walk;
 
+pub use learned::Learned;
 pub use plan::{Plan, Victim, Victims};
-pub use search::find;
+pub use search::{find, find_from};

@@ -12,12 +12,14 @@ ghost use Rattle.spec_roles.specs.Preemption.{plan_in, falling_priorities};
 ghost use Rattle.grant_table.specs.GrantTables.{as_known};
 ghost use Rattle.preempt.specs.Given.{IsEntry, pair_of};
 ghost use Rattle.preempt.specs.GroupSums.{no_sums};
+ghost use Rattle.preempt.specs.Learning.{IsTrue};
 ghost use Rattle.preempt.specs.MachineRooms.{AreRooms, AreRoomsFor, IsKindOf, within_at};
 ghost use Rattle.preempt.specs.Plans.{IsBoardOf, CanBeMade, plan_as};
 ghost use Rattle.preempt.specs.Search.{GoesOn, IsFound, accepts_at, pairs_on, pairs_at};
 ghost use Rattle.preempt.specs.Shelves.{IsSnapshot, IsWanted};
 
 use crate::entry::{Entry, Need, Sums};
+use crate::learned::Learned;
 use crate::machine_grants::{groups_of, machine_grants_of};
 use crate::need::{is_guaranteed, need_of, victims_for, waiting_of};
 use crate::parts::Parts;
@@ -345,4 +347,33 @@ pub fn find<P: Asking, L: Ledger>(
         free: &free,
     };
     Ok(first_of_all(alloc, table, placer, &stock, &line)?)
+}
+
+/// The same, where something was learned that is true of the table and of the one who asks. What the search finds
+/// out is learned too, and where memory is refused nothing more is. Where it is known that no pair has victims,
+/// nothing is read.
+pub fn find_from<P: Asking, L: Ledger>(
+    alloc: Global,
+    table: &GrantTable,
+    placer: &P,
+    learned: &mut Learned,
+    steps: &mut Steps<L>,
+) -> Result<Option<Plan>, OutOfMemory>
+    requires line { AllByRecursion (λ p. p.1 < unit_count (as_known table.now.jobs) p.0) (P.line placer.now) }
+    requires learned { IsTrue table.now (P.usable placer.now) (P.line placer.now) learned.old }
+    ensures learned { IsTrue table.now (P.usable placer.now) (P.line placer.now) learned.new }
+    ensures plan { IfOk result (λ found. (B : Board) → IsBoardOf B table.now (P.usable placer.now) → option_map plan_as found ≡ plan_in B table.now.entries (P.line placer.now)) }
+    ensures made { IfOk result (λ found. IfSome found (CanBeMade table.now)) }
+    ensures steps { steps.new ≤ steps.old + length table.now.cluster.machines }
+{
+    if learned.nobody {
+        return Ok(None);
+    }
+    match find(alloc, table, placer, steps)? {
+        Some(plan) => Ok(Some(plan)),
+        None => {
+            learned.nobody = true;
+            Ok(None)
+        }
+    }
 }

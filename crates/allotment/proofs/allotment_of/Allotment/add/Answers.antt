@@ -44,6 +44,7 @@ invariant_of-self-2 c =
     record {
       level = c.changed.ensures.level t c.self.invariant.level (record { sound = c.self.invariant.sound; number = count spot_cmp t.entries (spot_of c.args.pick) + c.args.count; is = c.add.ensures });
       sound = c.is_sound.ensures;
+      learned = c.nothing-self-inside.ensures _ _ _;
     }
 
 pub returns : goal.returns

@@ -39,6 +39,7 @@ invariant_of-self-2 c =
     record {
       level = c.changed.ensures.level t c.self.invariant.level (record { sound = c.self.invariant.sound; number = count spot_cmp t.entries s - c.args.count; is = c.take.ensures });
       sound = c.is_sound-2.ensures;
+      learned = c.nothing-self-inside.ensures _ _ _;
     }
 
 fewer : (c : After-is_sound-2) → IsFewer (spot c.args.app.0 c.args.unit.0 c.args.machine.0) c.args.count c.args.self.now (allotment_record c.take.new.self c.changed.new.self c.push.new.self.items)
