@@ -19,15 +19,17 @@ use Rattle.input_lines.specs.Contents.{content, is_skipped}
 use Rattle.input_lines.specs.LineProgress.{Along, WritesEnd}
 use Rattle.input_lines.specs.LineRuns.{Ending, AtEnd, AtBadLine, AtLimit, Run, IsBad, Prints, pieces}
 use Rattle.input_lines.specs.InputStatuses.{stop_status}
+use Rattle.input_lines.specs.RunEnds.{Faults, Failed, Served, Causes, CanEnd}
 use Rattle.input_lines.specs.Wholes.{IsBroken, TakesLines}
 use Rattle.input_lines.proofs.Known.{weaker}
 use Rattle.input_lines.proofs.LineProgressLemmas.{ends_at, is_short, known_end, one_more, so_far, takes_more}
 use Rattle.input_lines.proofs.LineRunsLemmas.{run_long, run_many}
+use Rattle.input_lines.proofs.RunEndsLemmas.{Within, ends_so}
 use Rattle.epoch_lease.specs.declared.event.LeaseFault.{LeaseFault}
 use Rattle.epoch_lease.specs.declared.event.LeaseFault.TheVariants.{NotCheckpoint, DiskFault as NoDisk, OutOfMemory as NoMemory}
 use Rattle.epoch_lease.specs.Files.{KeptLease, OpensLease, lease_of}
 use Rattle.epoch_lease.specs.Leases.{LeaseState, lease_step}
-use Rattle.epoch_lease.specs.LeaseEnds.{Ended, HasEither, HasFile, IsGranted, LeaseEnded, ReadsWhole, StaysShut, StopsAt}
+use Rattle.epoch_lease.specs.LeaseEnds.{Ended, HasEither, HasFile, IsGranted, LeaseEnded, lease_causes, ReadsWhole, StaysShut, StopsAt}
 use Rattle.epoch_lease.specs.LeaseProgress.{after_said, fault_status, TakesLine}
 use Rattle.epoch_lease.specs.LeaseRuns.{last_texts, lease_ends, lease_in, lease_runner, run_from, run_of, said_of}
 use Rattle.epoch_lease.specs.LeaseTexts.{answer_text, last_text}
@@ -204,11 +206,16 @@ damaged_at offset None new is = tt
 damaged_at offset (Some t) None is = absurd is
 damaged_at offset (Some t) (Some u) is = is
 
-pub damaged_by : (fault : LeaseFault) (offset : ℕ) (old new : Option Told) → ((o : ℕ) → fault ≡ NotCheckpoint o → WhereTold (IsDamagedAt o) old new) → fault_status fault ≡ DamagedCheckpoint offset
-    → IfSome old (λ t. records_of t.now.bytes ≡ Err offset)
-damaged_by (NotCheckpoint o) offset old new damaged is = let same : o ≡ offset = cc in damaged_at offset old new (subst (λ n. WhereTold (IsDamagedAt n) old new) same (damaged o refl))
-damaged_by NoDisk offset old new damaged is = absurd (let no : ⊥ = cc in no)
-damaged_by NoMemory offset old new damaged is = absurd (let no : ⊥ = cc in no)
+-- how a run ends of which the lease was not opened, or of which a step failed
+pub fault_ends : (damaged : ℕ → Type 0) (faults : Faults) (fault : LeaseFault) → ((offset : ℕ) → fault ≡ NotCheckpoint offset → damaged offset) → (fault ≡ NoDisk → Failed faults.disk) → (fault ≢ NoDisk → Served faults.disk)
+    → Served faults.source → Served faults.output → CanEnd (lease_causes damaged) faults (fault_status fault)
+fault_ends damaged faults (NotCheckpoint offset) at failed served source output = (at offset refl, (source, output, served (λ is. cc)))
+fault_ends damaged faults NoDisk at failed served source output = (source, output, failed refl)
+fault_ends damaged faults NoMemory at failed served source output = (tt, (source, output, served (λ is. cc)))
+
+-- a run of an open lease ends as one that opened it
+pub lease_within : (damaged : ℕ → Type 0) → Within (lease_causes (λ offset. ⊥)) (lease_causes damaged)
+lease_within damaged = record { usage = λ c. c; bad = λ line fault c. c; limit = λ what kept c. c; memory = λ c. c; stale = λ fence c. c; damaged = λ offset c. absurd c }
 
 pub stays_shut : (fault : LeaseFault) (old new : Option Told) → ((offset : ℕ) → fault ≡ NotCheckpoint offset → WhereTold (IsDamagedAt offset) old new) → ((offset : ℕ) → fault ≡ NotCheckpoint offset → WhereTold SyncsAll old new)
     → StaysShut (fault_status fault) old new
@@ -238,7 +245,7 @@ ran k status known left took after old middle new free opens = weaker known _ _ 
 same_value : (file : List ℕ) (a b : HardState) → records_of file ≡ Ok a → records_of file ≡ Ok b → a ≡ b
 same_value file a b is_a is_b = cc
 
-pub completes : (bytes : List ℕ) (t : Told) (value : HardState) (status : Status) (left before after : Option (List ℕ)) (new : Option Told) → records_of t.now.bytes ≡ Ok value → (run_of value bytes).ending ≡ AtEnd
+completes : (bytes : List ℕ) (t : Told) (value : HardState) (status : Status) (left before after : Option (List ℕ)) (new : Option Told) → records_of t.now.bytes ≡ Ok value → (run_of value bytes).ending ≡ AtEnd
     → (status ≡ ReadFault → ⊥) → (status ≡ WriteFault → ⊥) → (status ≡ DiskFault → ⊥) → LeaseEnded bytes status left before after (Some t) new → (status ≡ Done) ⊎ (status ≡ OutOfMemory)
 completes bytes t value status left before after new reads good unread unwritten unlost (inl e) = by_status status e.shut unlost
   where
@@ -271,3 +278,12 @@ completes bytes t value status left before after new reads good unread unwritten
     by_status Usage h r w d = absurd h
     by_status (StaleEpoch fence) h r w d = absurd h
     by_status (DamagedCheckpoint offset) h r w d = absurd h
+
+-- the same by what is said of every end
+pub completes_known : (causes : Causes) (faults : Faults) (status : Status) (known left before after : Option (List ℕ)) (old new : Option Told) → CanEnd causes faults status → IfSome known (λ bytes. LeaseEnded bytes status left before after old new)
+    → (bytes : List ℕ) (t : Told) (value : HardState) → known ≡ Some bytes → old ≡ Some t → records_of t.now.bytes ≡ Ok value → (run_of value bytes).ending ≡ AtEnd
+    → (Failed faults.source → ⊥) → (Failed faults.output → ⊥) → (Failed faults.disk → ⊥) → (status ≡ Done) ⊎ (status ≡ OutOfMemory)
+completes_known causes faults status known left before after old new ends ended bytes t value is told reads good unread unwritten unlost =
+    completes bytes t value status left before after new reads good
+    (λ e. unread (ends_so causes faults status ReadFault e ends).0) (λ e. unwritten (ends_so causes faults status WriteFault e ends).1) (λ e. unlost (ends_so causes faults status DiskFault e ends).2)
+    (subst (λ d. LeaseEnded bytes status left before after d new) told (subst (λ o. IfSome o (λ b. LeaseEnded b status left before after old new)) is ended))

@@ -12,6 +12,7 @@ use Rattle.spec_roles.specs.HardState.{HardState}
 use Rattle.hard_state.specs.HardFiles.{Opens, SyncsAll, records_of}
 use Rattle.input_lines.specs.Contents.{content}
 use Rattle.input_lines.specs.LineRuns.{AtEnd, AtBadLine, AtLimit, Run, pieces}
+use Rattle.input_lines.specs.RunEnds.{Causes, no_causes}
 use Rattle.input_lines.specs.Wholes.{whole_lines, TakesSome, WritesLast}
 use Rattle.epoch_lease.specs.declared.event.LeaseEvent.{LeaseEvent}
 use Rattle.epoch_lease.specs.Files.{OpensAs}
@@ -118,3 +119,7 @@ pub record EndsOpen (bytes : List ℕ) (status : Status) (left before after : Op
 -- what was made of the bytes of an input
 abbrev pub LeaseEnded : List ℕ → Status → Option (List ℕ) → Option (List ℕ) → Option (List ℕ) → Option Told → Option Told → Type 0
 LeaseEnded bytes status left before after old new = EndsShut bytes status left before after old new ⊎ EndsOpen bytes status left before after old new
+
+-- what ends a run of a lease but a fault: a bad line, a line after the limit, want of memory, and, where it has one, a damaged record at an offset
+abbrev pub lease_causes : (ℕ → Type 0) → Causes
+lease_causes damaged = record no_causes { bad = λ line fault. ⊤; limit = λ what kept. (what ≡ Lines) × (kept ≡ most_lines); memory = ⊤; damaged = damaged }

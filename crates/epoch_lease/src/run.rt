@@ -1,30 +1,34 @@
-ghost use Rattle.std.specs.Prelude.{◌≡◌, ◌≢◌, ◌+◌, ◌<◌, ◌≤◌, ◌⊎◌, ℕ, List, [], length, Option, Some, None, IfSome, Ok, Err, OnOk, false};
+ghost use Rattle.std.specs.Prelude.{◌≡◌, ◌<◌, ◌⊎◌, ℕ, List, [], Option, Some, None, IfSome, Ok, Err, OnOk, false};
 ghost use Rattle.fuxi_io.specs.Causes.{Rose};
 ghost use Rattle.fuxi_io.specs.Disks.{Told, WhereTold};
-ghost use Rattle.fuxi_terms.specs.Limits.{most_lines};
 ghost use Rattle.spec_roles.specs.HardState.{HardState};
 ghost use Rattle.hard_state.specs.HardFiles.{KeepsDamaged, records_of};
 ghost use Rattle.input_lines.specs.LineProgress.{WritesEnd};
 ghost use Rattle.input_lines.specs.LineRuns.{AtEnd};
+ghost use Rattle.input_lines.specs.RunEnds.{CanEnd, CanStop, no_causes};
 ghost use Rattle.epoch_lease.specs.Files.{lease_of};
-ghost use Rattle.epoch_lease.specs.LeaseEnds.{Ended, LeaseEnded};
-ghost use Rattle.epoch_lease.specs.LeaseProgress.{fault_status, LeavesLine, Rests, TakesLine};
+ghost use Rattle.epoch_lease.specs.LeaseEnds.{Ended, LeaseEnded, lease_causes};
+ghost use Rattle.epoch_lease.specs.LeaseProgress.{LeavesLine, Rests, TakesLine};
 ghost use Rattle.epoch_lease.specs.LeaseRuns.{lease_ends, run_from, run_of};
 
 use crate::print::{write_answer, write_number};
 use crate::{Lease, LeaseFault, read_lease};
-use fuxi_io::{Disk, Got, LimitOf, LineReader, Sink, Source, Status};
+use fuxi_io::{Disk, Got, LineReader, Sink, Source, Status};
 use input_lines::{content, event_status, is_skipped, stop_status};
 use std::alloc::Global;
 
-// The status that a fault of a lease means.
-fn fault_status(fault: LeaseFault) -> Status
-    ensures { result ≡ fault_status fault }
-{
-    match fault {
-        LeaseFault::NotCheckpoint { offset } => Status::DamagedCheckpoint { offset },
-        LeaseFault::DiskFault => Status::DiskFault,
-        LeaseFault::OutOfMemory => Status::OutOfMemory,
+impl From<LeaseFault> for Status {
+    ghost use Rattle.std.specs.Prelude.{◌≡◌};
+    ghost use Rattle.epoch_lease.specs.LeaseProgress.{fault_status};
+
+    ghost from_gives = { λ fault status. status ≡ fault_status fault };
+
+    fn from(fault: LeaseFault) -> Status {
+        match fault {
+            LeaseFault::NotCheckpoint { offset } => Status::DamagedCheckpoint { offset },
+            LeaseFault::DiskFault => Status::DiskFault,
+            LeaseFault::OutOfMemory => Status::OutOfMemory,
+        }
     }
 }
 
@@ -43,12 +47,7 @@ fn take_line<O: Sink, D: Disk>(
     ensures leaves { WhereTold (LeavesLine line.now result lease.old lease.new) (D.told disk.old) (D.told disk.new) }
     ensures sound { OnOk result (lease.new.hard.broken ≡ false) }
     ensures long { OnOk result (lease.new.hard.gate < D.size disk.new) }
-    ensures later { O.faults out.old ≤ O.faults out.new }
-    ensures kept { D.faults disk.old ≤ D.faults disk.new }
-    ensures write { result ≡ Err Status.WriteFault → Rose (O.faults out.old) (O.faults out.new) }
-    ensures disk { result ≡ Err Status.DiskFault → Rose (D.faults disk.old) (D.faults disk.new) }
-    ensures writes_served { result ≢ Err Status.WriteFault → O.faults out.new ≡ O.faults out.old }
-    ensures disk_served { result ≢ Err Status.DiskFault → D.faults disk.new ≡ D.faults disk.old }
+    ensures status { CanStop (lease_causes (λ offset. ⊥)) (record { source = (0, 0); output = (O.faults out.old, O.faults out.new); disk = (D.faults disk.old, D.faults disk.new) }) result }
 {
     crate::law::leases_at_rest_endure();
     if is_skipped(line) {
@@ -60,7 +59,7 @@ fn take_line<O: Sink, D: Disk>(
     };
     let answer = match lease.step(disk, &event) {
         Ok(answer) => answer,
-        Err(fault) => return Err(fault_status(fault)),
+        Err(fault) => return Err(Status::from(fault)),
     };
     match write_answer(out, &answer) {
         Ok(()) => Ok(()),
@@ -71,9 +70,7 @@ fn take_line<O: Sink, D: Disk>(
 // Writes the last epoch behind a whole input.
 fn write_last<O: Sink>(lease: &Lease, out: &mut O) -> Status
     ensures writes { WritesEnd lease_ends (lease_of lease.now) result (O.took out.old) (O.took out.new) }
-    ensures memory { result ≢ Status.OutOfMemory }
-    ensures write { result ≡ Status.WriteFault → Rose (O.faults out.old) (O.faults out.new) }
-    ensures writes_served { result ≢ Status.WriteFault → O.faults out.new ≡ O.faults out.old }
+    ensures status { CanEnd no_causes (record { source = (0, 0); output = (O.faults out.old, O.faults out.new); disk = (0, 0) }) result }
 {
     match write_number(out, b"last ", lease.last()) {
         Ok(()) => Status::Done,
@@ -95,16 +92,7 @@ fn run_lines<S: Source, O: Sink, D: Disk>(
     requires sound { lease.old.hard.broken ≡ false }
     requires long { lease.old.hard.gate < D.size disk.old }
     ensures ended { (before : Option Told) → Rests before lease.old (D.told disk.old) → IfSome (S.left source.old) (λ bytes. Ended (run_from 0 (lease_of lease.old)) bytes result (S.left source.new) (O.took out.old) (O.took out.new) before (D.told disk.new)) }
-    ensures read { result ≡ Status.ReadFault → Rose (S.faults source.old) (S.faults source.new) }
-    ensures write { result ≡ Status.WriteFault → Rose (O.faults out.old) (O.faults out.new) }
-    ensures disk { result ≡ Status.DiskFault → Rose (D.faults disk.old) (D.faults disk.new) }
-    ensures reads_served { result ≢ Status.ReadFault → S.faults source.new ≡ S.faults source.old }
-    ensures writes_served { result ≢ Status.WriteFault → O.faults out.new ≡ O.faults out.old }
-    ensures disk_served { result ≢ Status.DiskFault → D.faults disk.new ≡ D.faults disk.old }
-    ensures limit { (what : LimitOf) (kept : ℕ) → result ≡ Status.Limit what kept → (what ≡ LimitOf.Lines) × (kept ≡ most_lines) }
-    ensures usage { result ≢ Status.Usage }
-    ensures stale { (fence : ℕ) → result ≢ Status.StaleEpoch fence }
-    ensures damaged { (offset : ℕ) → result ≢ Status.DamagedCheckpoint offset }
+    ensures status { CanEnd (lease_causes (λ offset. ⊥)) (record { source = (S.faults source.old, S.faults source.new); output = (O.faults out.old, O.faults out.new); disk = (D.faults disk.old, D.faults disk.new) }) result }
 {
     input_lines::law::lines_are_taken();
     for turn in 0..1_000_001u64 {
@@ -126,38 +114,6 @@ fn run_lines<S: Source, O: Sink, D: Disk>(
     unreachable!()
 }
 
-// Opens a lease and runs it, as `run_lease` does.
-fn run_opened<S: Source, O: Sink, D: Disk>(
-    alloc: Global,
-    source: &mut S,
-    out: &mut O,
-    disk: &mut D,
-) -> Status
-    ensures ended { IfSome (S.left source.old) (λ bytes. LeaseEnded bytes result (S.left source.new) (O.took out.old) (O.took out.new) (D.told disk.old) (D.told disk.new)) }
-    ensures damaged { (offset : ℕ) → result ≡ Status.DamagedCheckpoint offset → IfSome (D.told disk.old) (λ t. records_of t.now.bytes ≡ Err offset) }
-    ensures keeps { KeepsDamaged (D.told disk.old) (D.told disk.new) }
-    ensures shut { (offset : ℕ) → result ≡ Status.DamagedCheckpoint offset → (source.new ≡ source.old) × (out.new ≡ out.old) }
-    ensures read { result ≡ Status.ReadFault → Rose (S.faults source.old) (S.faults source.new) }
-    ensures write { result ≡ Status.WriteFault → Rose (O.faults out.old) (O.faults out.new) }
-    ensures disk { result ≡ Status.DiskFault → Rose (D.faults disk.old) (D.faults disk.new) }
-    ensures reads_served { result ≢ Status.ReadFault → S.faults source.new ≡ S.faults source.old }
-    ensures writes_served { result ≢ Status.WriteFault → O.faults out.new ≡ O.faults out.old }
-    ensures disk_served { result ≢ Status.DiskFault → D.faults disk.new ≡ D.faults disk.old }
-    ensures limit { (what : LimitOf) (kept : ℕ) → result ≡ Status.Limit what kept → (what ≡ LimitOf.Lines) × (kept ≡ most_lines) }
-    ensures usage { result ≢ Status.Usage }
-    ensures stale { (fence : ℕ) → result ≢ Status.StaleEpoch fence }
-{
-    let mut lines = match LineReader::new(alloc) {
-        Ok(lines) => lines,
-        Err(_) => return Status::OutOfMemory,
-    };
-    let mut lease = match Lease::open(alloc, disk) {
-        Ok(lease) => lease,
-        Err(fault) => return fault_status(fault),
-    };
-    run_lines(alloc, &mut lease, &mut lines, source, out, disk)
-}
-
 /// Opens the lease of the checkpoint on the disk, runs it over the lines of the source, and writes what each answers before the next one is
 /// read, and behind the last line the last epoch. What is said of the output holds of a source and a sink that tell their bytes, and what
 /// is said of the file of a disk that does. A file with a damaged record is synced at most, whatever the status.
@@ -173,24 +129,24 @@ pub fn run_lease<S: Source, O: Sink, D: Disk>(
 ) -> Status
     // What was written, by the status, and what a crash leaves of the file then.
     ensures ended { IfSome (S.left source.old) (λ bytes. LeaseEnded bytes result (S.left source.new) (O.took out.old) (O.took out.new) (D.told disk.old) (D.told disk.new)) }
-    ensures damaged { (offset : ℕ) → result ≡ Status.DamagedCheckpoint offset → IfSome (D.told disk.old) (λ t. records_of t.now.bytes ≡ Err offset) }
     // A file with a damaged record is as it was, whatever the status.
     ensures keeps { KeepsDamaged (D.told disk.old) (D.told disk.new) }
-    ensures shut { (offset : ℕ) → result ≡ Status.DamagedCheckpoint offset → (source.new ≡ source.old) × (out.new ≡ out.old) }
-    ensures read { result ≡ Status.ReadFault → Rose (S.faults source.old) (S.faults source.new) }
-    ensures write { result ≡ Status.WriteFault → Rose (O.faults out.old) (O.faults out.new) }
-    ensures disk { result ≡ Status.DiskFault → Rose (D.faults disk.old) (D.faults disk.new) }
-    // Each count of faults rose with its own status alone, so a call that failed is told.
-    ensures reads_served { result ≢ Status.ReadFault → S.faults source.new ≡ S.faults source.old }
-    ensures writes_served { result ≢ Status.WriteFault → O.faults out.new ≡ O.faults out.old }
-    ensures disk_served { result ≢ Status.DiskFault → D.faults disk.new ≡ D.faults disk.old }
-    ensures limit { (what : LimitOf) (kept : ℕ) → result ≡ Status.Limit what kept → (what ≡ LimitOf.Lines) × (kept ≡ most_lines) }
-    ensures usage { result ≢ Status.Usage }
-    ensures stale { (fence : ℕ) → result ≢ Status.StaleEpoch fence }
+    // By which cause it ends so: each failed call is told by its own status, only a line after 1,000,000 is a limit, and of a damaged file that is the
+    // offset, and nothing was read or written.
+    ensures status { CanEnd (lease_causes (λ offset. IfSome (D.told disk.old) (λ t. records_of t.now.bytes ≡ Err offset) × (source.new ≡ source.old) × (out.new ≡ out.old)))
+        (record { source = (S.faults source.old, S.faults source.new); output = (O.faults out.old, O.faults out.new); disk = (D.faults disk.old, D.faults disk.new) }) result }
     // An input without a bad line, within the limit, over a file without a damaged record, with no fault of source, sink and disk, is done, but for want of memory.
     ensures complete { (bytes : List ℕ) (t : Told) (value : HardState) → S.left source.old ≡ Some bytes → D.told disk.old ≡ Some t → records_of t.now.bytes ≡ Ok value → (run_of value bytes).ending ≡ AtEnd
         → (Rose (S.faults source.old) (S.faults source.new) → ⊥) → (Rose (O.faults out.old) (O.faults out.new) → ⊥) → (Rose (D.faults disk.old) (D.faults disk.new) → ⊥)
         → (result ≡ Status.Done) ⊎ (result ≡ Status.OutOfMemory) }
 {
-    run_opened(alloc, source, out, disk)
+    let mut lines = match LineReader::new(alloc) {
+        Ok(lines) => lines,
+        Err(_) => return Status::OutOfMemory,
+    };
+    let mut lease = match Lease::open(alloc, disk) {
+        Ok(lease) => lease,
+        Err(fault) => return Status::from(fault),
+    };
+    run_lines(alloc, &mut lease, &mut lines, source, out, disk)
 }

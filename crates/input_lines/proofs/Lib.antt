@@ -5,3 +5,4 @@ pub mod OpenedRunsLemmas
 pub mod OpeningsLemmas
 pub mod Returns
 pub mod WholesLemmas
+pub mod RunEndsLemmas

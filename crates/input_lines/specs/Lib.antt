@@ -5,3 +5,4 @@ pub mod OpenedRuns
 pub mod Openings
 pub mod InputStatuses
 pub mod Wholes
+pub mod RunEnds

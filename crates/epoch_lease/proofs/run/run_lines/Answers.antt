@@ -1,13 +1,16 @@
 use Rattle.std.proofs.Common.{◌≡◌, ◌+◌, ◌<◌, true, false, Ok, Err, refl, sym, ◌∙◌, ap, subst, arith}
+use Rattle.fuxi_io.specs.Causes.{Rose}
 use Rattle.fuxi_io.specs.Reading.{Reading, line_of, rest_of}
 use Rattle.fuxi_io.specs.declared.lines.LineStop.TheVariants.{ReadFault as ReadStop}
-use Rattle.fuxi_io.specs.declared.status.Status.TheVariants.{DiskFault, WriteFault}
+use Rattle.fuxi_io.specs.declared.status.Status.TheVariants.{OutOfMemory}
 use Rattle.fuxi_terms.specs.Limits.{most_lines}
-use Rattle.input_lines.specs.InputStatuses.{stop_status}
 use Rattle.input_lines.specs.Contents.{content}
+use Rattle.input_lines.specs.RunEnds.{no_causes}
 use Rattle.input_lines.proofs.Known.{line_said, running_alone}
 use Rattle.input_lines.proofs.LineProgressLemmas.{start_fresh, step_along}
+use Rattle.input_lines.proofs.RunEndsLemmas.{carries_behind, carries_unused, ends_as, ends_so, stop_ends, within_any, within_same}
 use Rattle.epoch_lease.specs.Files.{lease_of}
+use Rattle.epoch_lease.specs.LeaseEnds.{lease_causes}
 use Rattle.epoch_lease.specs.Leases.{LeaseState}
 use Rattle.epoch_lease.specs.LeaseProgress.{TakesLine}
 use Rattle.epoch_lease.specs.LeaseRuns.{lease_runner}
@@ -26,9 +29,6 @@ loop-turn-init g c =
       running = ap (λ (r : Reading). r.stop) c.requires.fresh;
       sound = c.requires.sound;
       long = c.requires.long;
-      read = omega arith;
-      wrote = omega arith;
-      lost = omega arith;
       reads_served = refl;
       writes_served = refl;
       disk_served = refl;
@@ -39,7 +39,7 @@ returns-in-Ok-End-clause-ended g c before rests =
     let i = c.loop-turn.invariant in
     end_along c.lines_are_taken.ensures (g.S.Source.left c.args.source.now) (lease_of c.args.lease.now) c.loop-turn.lines.number true (lease_of c.loop-turn.lease) (rest_of c.loop-turn.lines (g.S.Source.left c.loop-turn.source)) (g.O.Sink.took c.args.out.now) (g.O.Sink.took c.loop-turn.out) i.along
     before (g.D.Disk.told c.loop-turn.disk) c.next.new.self.pending (g.S.Source.left c.next.new.source) (g.O.Sink.took c.write_last.new.out) (line_of c.next.new.self) c.write_last.result (rw c.in-Ok-End.field-0-is at c.in-Ok-End.ensures.gives)
-    (has_file c.loop-turn.lease before (g.D.Disk.told c.loop-turn.disk) (i.rests before rests)) c.write_last.ensures.memory c.write_last.ensures.writes
+    (has_file c.loop-turn.lease before (g.D.Disk.told c.loop-turn.disk) (i.rests before rests)) (λ is. (ends_so no_causes _ c.write_last.result OutOfMemory is c.write_last.ensures.status).0) c.write_last.ensures.writes
 
 pub returns-in-Err-clause-ended : goal.returns-in-Err-clause-ended
 returns-in-Err-clause-ended g c before rests =
@@ -75,7 +75,7 @@ returns-then-not-ended-clause-ended g c before rests =
     let now = goes_on c.loop-turn.lease c.take_line.new.lease before (g.D.Disk.told c.loop-turn.disk) (g.D.Disk.told c.take_line.new.disk) (i.rests before rests) c.in-Ok.ensures.leaves in
     last_along c.lines_are_taken.ensures (g.S.Source.left c.args.source.now) (lease_of c.args.lease.now) c.next.new.self.number false new (rest_of c.next.new.self (g.S.Source.left c.next.new.source)) (g.O.Sink.took c.args.out.now) (g.O.Sink.took c.take_line.new.out) along
     before (g.D.Disk.told c.take_line.new.disk) c.next.new.self.pending (g.S.Source.left c.next.new.source) (g.O.Sink.took c.write_last-then-not-ended.new.out) c.write_last-then-not-ended.result refl refl
-    (has_file c.take_line.new.lease before (g.D.Disk.told c.take_line.new.disk) now) c.write_last-then-not-ended.ensures.memory c.write_last-then-not-ended.ensures.writes
+    (has_file c.take_line.new.lease before (g.D.Disk.told c.take_line.new.disk) now) (λ is. (ends_so no_causes _ c.write_last-then-not-ended.result OutOfMemory is c.write_last-then-not-ended.ensures.status).0) c.write_last-then-not-ended.ensures.writes
 
 pub loop-turn-preserved : goal.loop-turn-preserved
 loop-turn-preserved g c =
@@ -95,20 +95,40 @@ loop-turn-preserved g c =
       running = c.in-Ok-Line.ensures.stop;
       sound = c.in-Ok.ensures.sound;
       long = c.in-Ok.ensures.long;
-      read = omega (arith, i.read, c.in-Ok-Line.ensures.later);
-      wrote = omega (arith, i.wrote, c.in-Ok.ensures.later);
-      lost = omega (arith, i.lost, c.in-Ok.ensures.kept);
       reads_served = c.in-Ok-Line.ensures.served (λ other. let no : ⊥ = cc in no) ∙ i.reads_served;
-      writes_served = c.in-Ok.ensures.writes_served (λ other. let no : ⊥ = cc in no) ∙ i.writes_served;
-      disk_served = c.in-Ok.ensures.disk_served (λ other. let no : ⊥ = cc in no) ∙ i.disk_served;
+      writes_served = c.in-Ok.ensures.status.1 ∙ i.writes_served;
+      disk_served = c.in-Ok.ensures.status.2 ∙ i.disk_served;
     }
 
-pub returns-in-Err-clause-reads_served : goal.returns-in-Err-clause-reads_served
-returns-in-Err-clause-reads_served g c other =
-    c.in-Err.ensures.served (λ is. let stop : c.in-Err.stop ≡ ReadStop = cc in other (c.stop_status.ensures ∙ ap (λ s. stop_status s c.number.result) stop)) ∙ c.loop-turn.invariant.reads_served
+pub returns-in-Ok-End-clause-status : goal.returns-in-Ok-End-clause-status
+returns-in-Ok-End-clause-status g c =
+    let i = c.loop-turn.invariant in
+    ends_as no_causes (lease_causes (λ offset. ⊥)) _ _ (within_any (lease_causes (λ offset. ⊥)))
+    (carries_unused (g.S.Source.faults c.args.source.now) (g.S.Source.faults c.next.new.source) (c.in-Ok-End.ensures.served (λ other. let no : ⊥ = cc in no) ∙ i.reads_served))
+    (carries_behind (g.O.Sink.faults c.args.out.now) (g.O.Sink.faults c.loop-turn.out) (g.O.Sink.faults c.write_last.new.out) i.writes_served)
+    (carries_unused (g.D.Disk.faults c.args.disk.now) (g.D.Disk.faults c.loop-turn.disk) i.disk_served) c.write_last.result c.write_last.ensures.status
 
-pub returns-in-Err-take_line-clause-writes_served : goal.returns-in-Err-take_line-clause-writes_served
-returns-in-Err-take_line-clause-writes_served g c other = c.in-Err-take_line.ensures.writes_served (λ is. let status : c.in-Err-take_line.status ≡ WriteFault = cc in other status) ∙ c.loop-turn.invariant.writes_served
+pub returns-in-Err-clause-status : goal.returns-in-Err-clause-status
+returns-in-Err-clause-status g c =
+    let i = c.loop-turn.invariant in
+    rw (c.stop_status.ensures, c.number.ensures.value, c.in-Err.ensures.number)
+    (stop_ends (lease_causes (λ offset. ⊥)) _ c.in-Err.stop c.loop-turn.lines.number tt
+    (λ e. (refl, (running_alone i.running (c.in-Err.ensures.many (ap (λ s. Err s) e))).0))
+    (λ e. subst (λ n. Rose n (g.S.Source.faults c.next.new.source)) i.reads_served (running_alone i.running (c.in-Err.ensures.fault (ap (λ s. Err s) e))))
+    (λ other. c.in-Err.ensures.served (λ is. other (let stop : c.in-Err.stop ≡ ReadStop = cc in stop)) ∙ i.reads_served) i.writes_served i.disk_served)
 
-pub returns-in-Err-take_line-clause-disk_served : goal.returns-in-Err-take_line-clause-disk_served
-returns-in-Err-take_line-clause-disk_served g c other = c.in-Err-take_line.ensures.disk_served (λ is. let status : c.in-Err-take_line.status ≡ DiskFault = cc in other status) ∙ c.loop-turn.invariant.disk_served
+pub returns-in-Err-take_line-clause-status : goal.returns-in-Err-take_line-clause-status
+returns-in-Err-take_line-clause-status g c =
+    let i = c.loop-turn.invariant in
+    ends_as (lease_causes (λ offset. ⊥)) (lease_causes (λ offset. ⊥)) _ _ (within_same (lease_causes (λ offset. ⊥)))
+    (carries_unused (g.S.Source.faults c.args.source.now) (g.S.Source.faults c.next.new.source) (c.in-Ok-Line.ensures.served (λ other. let no : ⊥ = cc in no) ∙ i.reads_served))
+    (carries_behind (g.O.Sink.faults c.args.out.now) (g.O.Sink.faults c.loop-turn.out) (g.O.Sink.faults c.take_line.new.out) i.writes_served)
+    (carries_behind (g.D.Disk.faults c.args.disk.now) (g.D.Disk.faults c.loop-turn.disk) (g.D.Disk.faults c.take_line.new.disk) i.disk_served) c.in-Err-take_line.status c.in-Err-take_line.ensures.status
+
+pub returns-then-not-ended-clause-status : goal.returns-then-not-ended-clause-status
+returns-then-not-ended-clause-status g c =
+    let i = c.loop-turn.invariant in
+    ends_as no_causes (lease_causes (λ offset. ⊥)) _ _ (within_any (lease_causes (λ offset. ⊥)))
+    (carries_unused (g.S.Source.faults c.args.source.now) (g.S.Source.faults c.next.new.source) (c.in-Ok-Line.ensures.served (λ other. let no : ⊥ = cc in no) ∙ i.reads_served))
+    (carries_behind (g.O.Sink.faults c.args.out.now) (g.O.Sink.faults c.take_line.new.out) (g.O.Sink.faults c.write_last-then-not-ended.new.out) (c.in-Ok.ensures.status.1 ∙ i.writes_served))
+    (carries_unused (g.D.Disk.faults c.args.disk.now) (g.D.Disk.faults c.take_line.new.disk) (c.in-Ok.ensures.status.2 ∙ i.disk_served)) c.write_last-then-not-ended.result c.write_last-then-not-ended.ensures.status

@@ -17,9 +17,6 @@ invariant-loop-turn g l = record {
   running : l.lines.stop ≡ None;
   sound : l.lease.hard.broken ≡ false;
   long : l.lease.hard.gate < g.D.Disk.size l.disk;
-  read : g.S.Source.faults l.fn.source ≤ g.S.Source.faults l.source;
-  wrote : g.O.Sink.faults l.fn.out ≤ g.O.Sink.faults l.out;
-  lost : g.D.Disk.faults l.fn.disk ≤ g.D.Disk.faults l.disk;
   reads_served : g.S.Source.faults l.source ≡ g.S.Source.faults l.fn.source;
   writes_served : g.O.Sink.faults l.out ≡ g.O.Sink.faults l.fn.out;
   disk_served : g.D.Disk.faults l.disk ≡ g.D.Disk.faults l.fn.disk;

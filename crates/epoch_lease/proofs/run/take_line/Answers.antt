@@ -1,7 +1,8 @@
-use Rattle.std.proofs.Common.{◌≡◌, Err, sym, ◌∙◌, ap}
+use Rattle.std.proofs.Common.{◌≡◌, Err, refl, sym, ap}
 use Rattle.epoch_lease.specs.declared.event.LeaseFault.TheVariants.{DiskFault as NoDisk}
 use Rattle.epoch_lease.specs.Files.{lease_of}
-use Rattle.epoch_lease.specs.LeaseProgress.{fault_status}
+use Rattle.input_lines.proofs.RunEndsLemmas.{event_ends}
+use Rattle.epoch_lease.proofs.LeaseEndsLemmas.{fault_ends}
 use Rattle.epoch_lease.proofs.LeaseProgressLemmas.{answered, answered_in_part, bad_line, skips, is_bad, fails}
 use Rattle.epoch_lease.proofs.run.take_line.Goals as goal
 
@@ -17,7 +18,7 @@ returns-in-Err-clause-leaves g c =
 
 pub returns-in-Err-step-clause-leaves : goal.returns-in-Err-step-clause-leaves
 returns-in-Err-step-clause-leaves g c =
-    rw c.fault_status.ensures (fails c.args.line.now c.in-Ok.event c.in-Err-step.fault c.args.lease.now c.step.new.self (g.D.Disk.told c.args.disk.now) (g.D.Disk.told c.step.new.disk) c.in-Ok.ensures.ok c.in-Err-step.ensures.told)
+    rw c.from.ensures (fails c.args.line.now c.in-Ok.event c.in-Err-step.fault c.args.lease.now c.step.new.self (g.D.Disk.told c.args.disk.now) (g.D.Disk.told c.step.new.disk) c.in-Ok.ensures.ok c.in-Err-step.ensures.told)
 
 pub returns-in-Ok-write_answer-clause-takes : goal.returns-in-Ok-write_answer-clause-takes
 returns-in-Ok-write_answer-clause-takes g c =
@@ -27,6 +28,10 @@ pub returns-in-Err-write_answer-clause-takes : goal.returns-in-Err-write_answer-
 returns-in-Err-write_answer-clause-takes g c =
     answered_in_part c.args.line.now c.args.number (lease_of c.args.lease.now) (lease_of c.step.new.self) c.in-Ok.event c.in-Ok-step.answer (g.O.Sink.took c.args.out.now) (g.O.Sink.took c.write_answer.new.out) (sym c.if-is_skipped.ensures) c.in-Ok.ensures.ok c.in-Ok-step.ensures.steps c.in-Err-write_answer.ensures.err
 
-pub returns-in-Err-step-clause-disk_served : goal.returns-in-Err-step-clause-disk_served
-returns-in-Err-step-clause-disk_served g c other =
-    c.in-Err-step.ensures.served (λ is. let fault : c.in-Err-step.fault ≡ NoDisk = cc in other (ap (λ s. Err s) (c.fault_status.ensures ∙ ap fault_status fault)))
+pub returns-in-Err-clause-status : goal.returns-in-Err-clause-status
+returns-in-Err-clause-status g c = rw c.event_status.ensures (event_ends _ _ c.in-Err.fault c.args.number (λ why. tt) tt (refl, refl, refl))
+
+pub returns-in-Err-step-clause-status : goal.returns-in-Err-step-clause-status
+returns-in-Err-step-clause-status g c =
+    rw c.from.ensures (fault_ends (λ offset. ⊥) _ c.in-Err-step.fault (λ offset is. absurd (c.in-Err-step.ensures.own offset (ap (λ f. Err f) is)))
+    (λ is. c.in-Err-step.ensures.cause (ap (λ f. Err f) is)) (λ other. c.in-Err-step.ensures.served (λ is. other (let fault : c.in-Err-step.fault ≡ NoDisk = cc in fault))) refl refl)
