@@ -1,12 +1,14 @@
 -- How a run over the lines of an input goes, and what is known of it by the status that it ends with.
-use Rattle.std.specs.Prelude.{◌≡◌, ℕ, Result, Ok, Err, List, [], ◌∷◌, Option, Some, None}
+use Rattle.std.specs.Prelude.{◌≡◌, ◌⊎◌, ⊤, ℕ, Result, Ok, Err, List, [], ◌∷◌, Option, Some, None}
 use Rattle.std.specs.List.{concat}
 use Rattle.fuxi_io.specs.Lines.{InputLine, lines_of}
-use Rattle.fuxi_io.specs.declared.status.LimitOf.TheVariants.{Packets}
+use Rattle.fuxi_io.specs.declared.status.LimitOf.TheVariants.{Lines, Packets}
 use Rattle.fuxi_io.specs.declared.status.Status.{Status}
+use Rattle.fuxi_terms.specs.Limits.{most_lines}
 use Rattle.schedule_text.specs.declared.event.LineFault.{LineFault}
 use Rattle.input_lines.specs.LineRuns.{AtEnd, Run, Said, IsBad, IsPast, Prints, Runner, Ends, pieces, text_ends, run_from as runs_from, Ended as EndedSo}
 use Rattle.input_lines.specs.InputStatuses.{event_fault}
+use Rattle.input_lines.specs.RunEnds.{Causes, no_causes}
 use Rattle.work_plan.specs.ReadWorkEvents.{work_of}
 use Rattle.work_plan.specs.declared.event.WorkEvent.{WorkEvent}
 use Rattle.work_plan.specs.WorkEvents.{Step, show, work_step}
@@ -51,3 +53,7 @@ Ended run bytes status left before after = EndedSo work_plan run bytes status le
 -- the whole text of an input
 abbrev pub text_of : List ℕ → List ℕ
 text_of bytes = concat (pieces state_texts (run_of bytes))
+
+-- what ends a run of named workers but a fault: a bad line, a limit, which is that on packets or on lines, and want of memory
+abbrev pub work_causes : Causes
+work_causes = record no_causes { bad = λ line fault. ⊤; limit = λ what kept. (what ≡ Packets) ⊎ ((what ≡ Lines) × (kept ≡ most_lines)); memory = ⊤ }

@@ -1,11 +1,11 @@
-ghost use Rattle.std.specs.Prelude.{false, OnOk, ◌≡◌, ◌+◌, ◌<◌, ◌≤◌, ◌^◌, ◌≢◌, ◌⊎◌, [], Some, None, IfSome, Err, ℕ, List};
+ghost use Rattle.std.specs.Prelude.{false, OnOk, ◌≡◌, ◌+◌, ◌<◌, ◌≤◌, ◌^◌, ◌⊎◌, [], Some, None, IfSome, ℕ, List};
 ghost use Rattle.fuxi_io.specs.Causes.{Rose};
-ghost use Rattle.fuxi_terms.specs.Limits.{most_lines};
 ghost use Rattle.work_plan.specs.AgentWithApps.{World, empty_world};
 ghost use Rattle.work_plan.specs.WorkWorlds.{IsReached, Stands};
 ghost use Rattle.input_lines.specs.LineRuns.{AtEnd};
-ghost use Rattle.work_plan.specs.WorkLineRuns.{Ended, run_from, run_of};
-ghost use Rattle.work_plan.specs.WorkProgress.{TakesLine, WritesState, world_status};
+ghost use Rattle.input_lines.specs.RunEnds.{CanEnd, CanStop};
+ghost use Rattle.work_plan.specs.WorkLineRuns.{Ended, run_from, run_of, work_causes};
+ghost use Rattle.work_plan.specs.WorkProgress.{TakesLine, WritesState, line_causes, state_causes};
 
 use crate::{WorkStop, Working, read_work};
 use fuxi_io::{Got, LimitOf, LineReader, Sink, Source, Status, write_all_of};
@@ -13,16 +13,20 @@ use fuxi_terms::OutOfMemory;
 use input_lines::{content, event_status, is_skipped, law, stop_status};
 use std::alloc::Global;
 
-// The status that a stop of the world means.
-fn world_status(stop: WorkStop) -> Status
-    ensures { result ≡ world_status stop }
-{
-    match stop {
-        WorkStop::TooManyPackets { kept } => Status::Limit {
-            what: LimitOf::Packets,
-            kept,
-        },
-        WorkStop::OutOfMemory => Status::OutOfMemory,
+impl From<WorkStop> for Status {
+    ghost use Rattle.std.specs.Prelude.{◌≡◌};
+    ghost use Rattle.work_plan.specs.WorkProgress.{world_status};
+
+    ghost from_gives = { λ stop status. status ≡ world_status stop };
+
+    fn from(stop: WorkStop) -> Status {
+        match stop {
+            WorkStop::TooManyPackets { kept } => Status::Limit {
+                what: LimitOf::Packets,
+                kept,
+            },
+            WorkStop::OutOfMemory => Status::OutOfMemory,
+        }
     }
 }
 
@@ -39,14 +43,7 @@ fn take_line<O: Sink>(
     ensures takes { (w : World) → Stands working.old w → TakesLine working.new line.now number w result (O.took out.old) (O.took out.new) }
     ensures reached { OnOk result (IsReached working.new) }
     ensures events { OnOk result (working.new.events ≤ working.old.events + 1) }
-    ensures fault { result ≡ Err Status.WriteFault → Rose (O.faults out.old) (O.faults out.new) }
-    ensures served { result ≢ Err Status.WriteFault → O.faults out.new ≡ O.faults out.old }
-    ensures limit { (what : LimitOf) (kept : ℕ) → result ≡ Err (Status.Limit what kept) → what ≡ LimitOf.Packets }
-    ensures usage { result ≢ Err Status.Usage }
-    ensures read { result ≢ Err Status.ReadFault }
-    ensures disk { result ≢ Err Status.DiskFault }
-    ensures stale { (fence : ℕ) → result ≢ Err (Status.StaleEpoch fence) }
-    ensures damaged { (offset : ℕ) → result ≢ Err (Status.DamagedCheckpoint offset) }
+    ensures status { CanStop line_causes (record { source = (0, 0); output = (O.faults out.old, O.faults out.new); disk = (0, 0) }) result }
 {
     if is_skipped(line) {
         return Ok(());
@@ -58,7 +55,7 @@ fn take_line<O: Sink>(
     let mut text = Vec::new(alloc);
     match working.step(alloc, &event, &mut text) {
         Ok(()) => {}
-        Err(stop) => return Err(world_status(stop)),
+        Err(stop) => return Err(Status::from(stop)),
     }
     match write_all_of(out, &text) {
         Ok(()) => Ok(()),
@@ -70,14 +67,7 @@ fn take_line<O: Sink>(
 fn write_state<O: Sink>(alloc: Global, working: &Working, out: &mut O) -> Status
     requires { IsReached working.now }
     ensures writes { (w : World) → Stands working.now w → WritesState w result (O.took out.old) (O.took out.new) }
-    ensures fault { result ≡ Status.WriteFault → Rose (O.faults out.old) (O.faults out.new) }
-    ensures served { result ≢ Status.WriteFault → O.faults out.new ≡ O.faults out.old }
-    ensures read { result ≢ Status.ReadFault }
-    ensures usage { result ≢ Status.Usage }
-    ensures limit { (what : LimitOf) (kept : ℕ) → result ≢ Status.Limit what kept }
-    ensures disk { result ≢ Status.DiskFault }
-    ensures stale { (fence : ℕ) → result ≢ Status.StaleEpoch fence }
-    ensures damaged { (offset : ℕ) → result ≢ Status.DamagedCheckpoint offset }
+    ensures status { CanEnd state_causes (record { source = (0, 0); output = (O.faults out.old, O.faults out.new); disk = (0, 0) }) result }
 {
     let mut text = Vec::new(alloc);
     match working.write_state(&mut text) {
@@ -104,15 +94,7 @@ fn run_lines<S: Source, O: Sink>(
     requires stands { Stands working.old empty_world }
     requires events { working.old.events ≡ 0 }
     ensures ended { IfSome (S.left source.old) (λ bytes. Ended (run_from 0 empty_world) bytes result (S.left source.new) (O.took out.old) (O.took out.new)) }
-    ensures read { result ≡ Status.ReadFault → Rose (S.faults source.old) (S.faults source.new) }
-    ensures write { result ≡ Status.WriteFault → Rose (O.faults out.old) (O.faults out.new) }
-    ensures reads_served { result ≢ Status.ReadFault → S.faults source.new ≡ S.faults source.old }
-    ensures writes_served { result ≢ Status.WriteFault → O.faults out.new ≡ O.faults out.old }
-    ensures limit { (what : LimitOf) (kept : ℕ) → result ≡ Status.Limit what kept → (what ≡ LimitOf.Packets) ⊎ ((what ≡ LimitOf.Lines) × (kept ≡ most_lines)) }
-    ensures usage { result ≢ Status.Usage }
-    ensures disk { result ≢ Status.DiskFault }
-    ensures stale { (fence : ℕ) → result ≢ Status.StaleEpoch fence }
-    ensures damaged { (offset : ℕ) → result ≢ Status.DamagedCheckpoint offset }
+    ensures status { CanEnd work_causes (record { source = (S.faults source.old, S.faults source.new); output = (O.faults out.old, O.faults out.new); disk = (0, 0) }) result }
 {
     law::lines_are_taken();
     for turn in 0..1_000_001u64 {
@@ -134,27 +116,6 @@ fn run_lines<S: Source, O: Sink>(
     unreachable!()
 }
 
-// Runs a world that was just begun, as `run_work` does.
-fn run_begun<S: Source, O: Sink>(alloc: Global, source: &mut S, out: &mut O) -> Status
-    ensures ended { IfSome (S.left source.old) (λ bytes. Ended (run_from 0 empty_world) bytes result (S.left source.new) (O.took out.old) (O.took out.new)) }
-    ensures read { result ≡ Status.ReadFault → Rose (S.faults source.old) (S.faults source.new) }
-    ensures write { result ≡ Status.WriteFault → Rose (O.faults out.old) (O.faults out.new) }
-    ensures reads_served { result ≢ Status.ReadFault → S.faults source.new ≡ S.faults source.old }
-    ensures writes_served { result ≢ Status.WriteFault → O.faults out.new ≡ O.faults out.old }
-    ensures limit { (what : LimitOf) (kept : ℕ) → result ≡ Status.Limit what kept → (what ≡ LimitOf.Packets) ⊎ ((what ≡ LimitOf.Lines) × (kept ≡ most_lines)) }
-    ensures usage { result ≢ Status.Usage }
-    ensures disk { result ≢ Status.DiskFault }
-    ensures stale { (fence : ℕ) → result ≢ Status.StaleEpoch fence }
-    ensures damaged { (offset : ℕ) → result ≢ Status.DamagedCheckpoint offset }
-{
-    let mut lines = match LineReader::new(alloc) {
-        Ok(lines) => lines,
-        Err(_) => return Status::OutOfMemory,
-    };
-    let mut working = Working::start(alloc);
-    run_lines(alloc, &mut working, &mut lines, source, out)
-}
-
 /// Runs named workers over the lines of the source, writes what each prints before the next one is read, and behind the last line the
 /// state. What is said of the output holds of a source and a sink that tell their bytes.
 ///
@@ -163,19 +124,17 @@ fn run_begun<S: Source, O: Sink>(alloc: Global, source: &mut S, out: &mut O) -> 
 pub fn run_work<S: Source, O: Sink>(alloc: Global, source: &mut S, out: &mut O) -> Status
     // What was written, by the status.
     ensures ended { IfSome (S.left source.old) (λ bytes. Ended (run_from 0 empty_world) bytes result (S.left source.new) (O.took out.old) (O.took out.new)) }
-    ensures read { result ≡ Status.ReadFault → Rose (S.faults source.old) (S.faults source.new) }
-    ensures write { result ≡ Status.WriteFault → Rose (O.faults out.old) (O.faults out.new) }
-    ensures reads_served { result ≢ Status.ReadFault → S.faults source.new ≡ S.faults source.old }
-    ensures writes_served { result ≢ Status.WriteFault → O.faults out.new ≡ O.faults out.old }
-    ensures limit { (what : LimitOf) (kept : ℕ) → result ≡ Status.Limit what kept → (what ≡ LimitOf.Packets) ⊎ ((what ≡ LimitOf.Lines) × (kept ≡ most_lines)) }
-    ensures usage { result ≢ Status.Usage }
-    ensures disk { result ≢ Status.DiskFault }
-    ensures stale { (fence : ℕ) → result ≢ Status.StaleEpoch fence }
-    ensures damaged { (offset : ℕ) → result ≢ Status.DamagedCheckpoint offset }
+    // By which cause it ends so: each failed call is told by its own status, and a limit is that on packets or on lines.
+    ensures status { CanEnd work_causes (record { source = (S.faults source.old, S.faults source.new); output = (O.faults out.old, O.faults out.new); disk = (0, 0) }) result }
     // An input without a bad line, within the limits, with no fault of source and sink, is done, but for want of memory.
     ensures complete { (bytes : List ℕ) → S.left source.old ≡ Some bytes → (run_of bytes).ending ≡ AtEnd
         → (Rose (S.faults source.old) (S.faults source.new) → ⊥) → (Rose (O.faults out.old) (O.faults out.new) → ⊥)
         → (result ≡ Status.Done) ⊎ (result ≡ Status.OutOfMemory) }
 {
-    run_begun(alloc, source, out)
+    let mut lines = match LineReader::new(alloc) {
+        Ok(lines) => lines,
+        Err(_) => return Status::OutOfMemory,
+    };
+    let mut working = Working::start(alloc);
+    run_lines(alloc, &mut working, &mut lines, source, out)
 }

@@ -1,14 +1,17 @@
-use Rattle.std.proofs.Common.{◌≡◌, ◌+◌, ◌<◌, true, false, Ok, Err, refl, sym, ◌∙◌, ap, arith}
+use Rattle.std.proofs.Common.{◌≡◌, inr, ◌+◌, ◌<◌, true, false, Ok, Err, refl, sym, ◌∙◌, ap, subst, arith}
+use Rattle.fuxi_io.specs.Causes.{Rose}
 use Rattle.fuxi_io.specs.Reading.{Reading, line_of, rest_of}
-use Rattle.fuxi_io.specs.declared.status.Status.TheVariants.{WriteFault}
+use Rattle.fuxi_io.specs.declared.lines.LineStop.TheVariants.{ReadFault as ReadStop}
 use Rattle.fuxi_terms.specs.Limits.{most_lines}
 use Rattle.input_lines.specs.Contents.{content}
 use Rattle.input_lines.proofs.Known.{line_said, running_alone}
 use Rattle.input_lines.proofs.LineProgressLemmas.{start_fresh, step_along, end_along, last_along, stop_along, line_along}
+use Rattle.input_lines.proofs.RunEndsLemmas.{carries_behind, carries_same, carries_unused, ends_as, stop_ends}
 use Rattle.work_plan.specs.AgentWithApps.{empty_world}
 use Rattle.work_plan.specs.WorkWorlds.{Stands}
-use Rattle.work_plan.specs.WorkLineRuns.{work_plan, work_runner}
-use Rattle.work_plan.proofs.WorkProgressLemmas.{ends_with_state}
+use Rattle.work_plan.specs.WorkLineRuns.{work_causes, work_plan, work_runner}
+use Rattle.work_plan.specs.WorkProgress.{line_causes, state_causes}
+use Rattle.work_plan.proofs.WorkProgressLemmas.{ends_with_state, line_within, state_within}
 use Rattle.work_plan.proofs.run.run_lines.Goals as goal
 
 pub loop-turn-init : goal.loop-turn-init
@@ -70,8 +73,38 @@ loop-turn-preserved g c =
       small = λ h. omega (arith, counted, more);
       running = c.in-Ok-Line.ensures.stop;
       read = c.in-Ok-Line.ensures.served (λ e. cc) ∙ i.read;
-      wrote = c.in-Ok.ensures.served (λ e. cc) ∙ i.wrote;
+      wrote = c.in-Ok.ensures.status.1 ∙ i.wrote;
     }
 
-pub returns-in-Err-take_line-clause-writes_served : goal.returns-in-Err-take_line-clause-writes_served
-returns-in-Err-take_line-clause-writes_served g c other = c.in-Err-take_line.ensures.served (λ e. other (let i : c.in-Err-take_line.status ≡ WriteFault = cc in i)) ∙ c.loop-turn.invariant.wrote
+pub returns-in-Ok-End-clause-status : goal.returns-in-Ok-End-clause-status
+returns-in-Ok-End-clause-status g c =
+    let i = c.loop-turn.invariant in
+    ends_as state_causes work_causes _ _ state_within
+    (carries_unused (g.S.Source.faults c.args.source.now) (g.S.Source.faults c.next.new.source) (c.in-Ok-End.ensures.served (λ e. cc) ∙ i.read))
+    (carries_behind (g.O.Sink.faults c.args.out.now) (g.O.Sink.faults c.loop-turn.out) (g.O.Sink.faults c.write_state.new.out) i.wrote)
+    (carries_same (0, 0)) c.write_state.result c.write_state.ensures.status
+
+pub returns-in-Err-clause-status : goal.returns-in-Err-clause-status
+returns-in-Err-clause-status g c =
+    let i = c.loop-turn.invariant in
+    rw (c.stop_status.ensures, c.number.ensures.value, c.in-Err.ensures.number)
+    (stop_ends work_causes _ c.in-Err.stop c.loop-turn.lines.number tt
+    (λ e. inr (refl, (running_alone i.running (c.in-Err.ensures.many (ap (λ s. Err s) e))).0))
+    (λ e. subst (λ n. Rose n (g.S.Source.faults c.next.new.source)) i.read (running_alone i.running (c.in-Err.ensures.fault (ap (λ s. Err s) e))))
+    (λ other. c.in-Err.ensures.served (λ is. other (let stop : c.in-Err.stop ≡ ReadStop = cc in stop)) ∙ i.read) i.wrote refl)
+
+pub returns-in-Err-take_line-clause-status : goal.returns-in-Err-take_line-clause-status
+returns-in-Err-take_line-clause-status g c =
+    let i = c.loop-turn.invariant in
+    ends_as line_causes work_causes _ _ line_within
+    (carries_unused (g.S.Source.faults c.args.source.now) (g.S.Source.faults c.next.new.source) (c.in-Ok-Line.ensures.served (λ e. cc) ∙ i.read))
+    (carries_behind (g.O.Sink.faults c.args.out.now) (g.O.Sink.faults c.loop-turn.out) (g.O.Sink.faults c.take_line.new.out) i.wrote)
+    (carries_same (0, 0)) c.in-Err-take_line.status c.in-Err-take_line.ensures.status
+
+pub returns-then-not-ended-clause-status : goal.returns-then-not-ended-clause-status
+returns-then-not-ended-clause-status g c =
+    let i = c.loop-turn.invariant in
+    ends_as state_causes work_causes _ _ state_within
+    (carries_unused (g.S.Source.faults c.args.source.now) (g.S.Source.faults c.next.new.source) (c.in-Ok-Line.ensures.served (λ e. cc) ∙ i.read))
+    (carries_behind (g.O.Sink.faults c.args.out.now) (g.O.Sink.faults c.take_line.new.out) (g.O.Sink.faults c.write_state-then-not-ended.new.out) (c.in-Ok.ensures.status.1 ∙ i.wrote))
+    (carries_same (0, 0)) c.write_state-then-not-ended.result c.write_state-then-not-ended.ensures.status
