@@ -1,8 +1,7 @@
 -- What a command made of what it was handed, put together from what the run of each kind of command says.
-use Rattle.std.proofs.Common.{◌≡◌, ◌⊎◌, inl, inr, refl, ap, subst, ℕ, List, Option, None, Some, is_some, Ok, IfSome, true, false}
+use Rattle.std.proofs.Common.{◌≡◌, ◌⊎◌, inl, inr, refl, ap, subst, ℕ, List, Option, None, Some, is_some, Ok, Err, IfSome, true, false, arith}
 use Rattle.fuxi_io.specs.Causes.{Rose}
 use Rattle.fuxi_io.specs.Disks.{Told as DiskTold}
-use Rattle.fuxi_io.specs.declared.status.LimitOf.{LimitOf}
 use Rattle.fuxi_io.specs.declared.status.LimitOf.TheVariants.{Lines, Packets, Bytes, Records, Calls}
 use Rattle.fuxi_io.specs.declared.status.Status.{Status}
 use Rattle.fuxi_io.specs.declared.status.Status.TheVariants.{Done, Usage, BadInput, ReadFault, WriteFault, Limit, OutOfMemory, DiskFault, StaleEpoch, DamagedCheckpoint}
@@ -12,11 +11,13 @@ use Rattle.storm_run.specs.StormRuns.{StormEnded}
 use Rattle.storm_run.specs.Summaries.{storm_of}
 use Rattle.spec_roles.specs.HardState.{HardState}
 use Rattle.hard_state.specs.HardFiles.{KeepsDamaged, records_of}
-use Rattle.epoch_lease.specs.LeaseEnds.{LeaseEnded}
+use Rattle.epoch_lease.specs.LeaseEnds.{LeaseEnded, lease_causes}
 use Rattle.input_lines.specs.LineRuns.{AtEnd}
+use Rattle.input_lines.specs.RunEnds.{Causes, Faults, CanEnd}
+use Rattle.input_lines.proofs.RunEndsLemmas.{carries_same, carries_unused, disk_served, ends_as, ends_so, output_served, source_served, within_same}
 use Rattle.epoch_lease.specs.LeaseRuns.{run_of}
 use Rattle.work_plan.specs.AgentWithApps.{empty_world as empty_work}
-use Rattle.work_plan.specs.WorkLineRuns.{Ended as WorkEnded, run_from as work_run_from, run_of as work_run_of}
+use Rattle.work_plan.specs.WorkLineRuns.{Ended as WorkEnded, run_from as work_run_from, run_of as work_run_of, work_causes}
 use Rattle.fuxi_node.specs.declared.kind.NodeKind.{NodeKind}
 use Rattle.fuxi_node.specs.declared.kind.NodeKind.TheVariants.{Master, Agent, App}
 use Rattle.fuxi_node.specs.NodeInputs.{HasNoCluster, InputEnded, InputEndsBy, IsDiskless, LeavesDisk, MayStart, TellsDisk, ending_of, status_at}
@@ -166,17 +167,58 @@ node_diskless (Master epoch) addr status disk told fileless = absurd cc
 node_diskless (Agent machine boot) addr status disk told fileless = told
 node_diskless (App app boot units) addr status disk told fileless = told
 
--- the limits of named workers
-pub work_lines : (status : Status) (kept : ℕ) → ((what : LimitOf) (kept : ℕ) → status ≡ Limit what kept → (what ≡ Packets) ⊎ ((what ≡ Lines) × (kept ≡ most_lines))) → status ≡ Limit Lines kept → kept ≡ most_lines
-work_lines status kept limit is = elim (limit Lines kept is) [
+-- the faults of a command
+abbrev pub faults_seen : Seen → Seen → Faults
+faults_seen old new = record { source = (old.reads_failed, new.reads_failed); output = (old.writes_failed, new.writes_failed); disk = (old.disk_failed, new.disk_failed) }
+
+-- what is said of each command, of one that ends for one of some causes
+pub ends_for : (causes : Causes) (c : Command) (status : Status) (D N : Type 0) (old new : Seen) → CanEnd causes (faults_seen old new) status → (causes.usage → ⊥) → ((kept : ℕ) → causes.limit Lines kept → kept ≡ most_lines) → KeepsDamaged old.disk new.disk
+    → (is_node (Some c) ≡ false → N) → (has_file (Some c) ≡ false → D) → (has_file (Some c) ≡ false → IsDiskless status) → Ends c status D N old new
+ends_for causes c status D N old new ends usage limit keeps door file tells = record {
+  usage = λ is. usage (so Usage is).0;
+  read = λ is. (so ReadFault is).0;
+  write = λ is. (so WriteFault is).1;
+  faults = (source_served causes (faults_seen old new) status ends, output_served causes (faults_seen old new) status ends, disk_served causes (faults_seen old new) status ends);
+  keeps = keeps;
+  limit = λ kept is. limit kept (so (Limit Lines kept) is).0;
+  disk = λ is. (so DiskFault is).2;
+  no_door = door;
+  no_file = file;
+  diskless = tells;
+}
+  where
+    so : (s : Status) → status ≡ s → CanEnd causes (faults_seen old new) s
+    so s is = ends_so causes (faults_seen old new) status s is ends
+
+-- what a lease tells
+pub lease_tells : (damaged : ℕ → Type 0) (faults : Faults) (status : Status) (disk : Option DiskTold) → CanEnd (lease_causes damaged) faults status → ((offset : ℕ) → damaged offset → IfSome disk (λ t. records_of t.now.bytes ≡ Err offset)) → TellsLease status disk
+lease_tells damaged faults status disk ends at = record {
+  damaged = λ offset is. at offset (so (DamagedCheckpoint offset) is).0;
+  limit = λ what kept is. (so (Limit what kept) is).0.0;
+  fresh = λ fence is. (so (StaleEpoch fence) is).0;
+}
+  where
+    so : (s : Status) → status ≡ s → CanEnd (lease_causes damaged) faults s
+    so s is = ends_so (lease_causes damaged) faults status s is ends
+
+-- named workers, which have no disk
+module _ (status : Status) (old new : Seen) (ends : CanEnd work_causes (record { source = (old.reads_failed, new.reads_failed); output = (old.writes_failed, new.writes_failed); disk = (0, 0) }) status) where
+  work_so : (s : Status) → status ≡ s → CanEnd work_causes (record { source = (old.reads_failed, new.reads_failed); output = (old.writes_failed, new.writes_failed); disk = (0, 0) }) s
+  work_so s is = ends_so work_causes _ status s is ends
+
+  pub work_ends : new.disk_failed ≡ old.disk_failed → CanEnd work_causes (faults_seen old new) status
+  work_ends same = ends_as work_causes work_causes _ (faults_seen old new) (within_same work_causes) (carries_same _) (carries_same _) (carries_unused old.disk_failed new.disk_failed same) status ends
+
+  pub work_diskless : IsDiskless status
+  work_diskless = diskless status (λ is. let rose = (work_so DiskFault is).2 in absurd (omega (arith, rose))) (λ fence is. (work_so (StaleEpoch fence) is).0) (λ offset is. (work_so (DamagedCheckpoint offset) is).0) (λ kept is. elim (work_so (Limit Records kept) is).0 [
+    | inl other ↦ absurd cc
+    | inr lines ↦ let other = lines.0 in absurd cc
+  ])
+
+pub work_lines : (kept : ℕ) → (Lines ≡ Packets) ⊎ ((Lines ≡ Lines) × (kept ≡ most_lines)) → kept ≡ most_lines
+work_lines kept limit = elim limit [
   | inl other ↦ absurd cc
   | inr lines ↦ lines.1
-]
-
-pub work_records : (status : Status) (kept : ℕ) → ((what : LimitOf) (kept : ℕ) → status ≡ Limit what kept → (what ≡ Packets) ⊎ ((what ≡ Lines) × (kept ≡ most_lines))) → status ≡ Limit Records kept → ⊥
-work_records status kept limit is = elim (limit Records kept is) [
-  | inl other ↦ absurd cc
-  | inr lines ↦ let other = lines.0 in absurd cc
 ]
 
 -- a storm, which ends with no other status than those of which something is said

@@ -1,7 +1,10 @@
 use Rattle.std.proofs.Common.{refl, sym}
 use Rattle.schedule_replay.specs.ScheduleRuns.{read_from, Ended}
+use Rattle.epoch_lease.specs.LeaseEnds.{lease_causes}
+use Rattle.work_plan.specs.WorkLineRuns.{work_causes}
 use Rattle.fuxi_command.specs.CommandWords.{Lease, Node, Replay, Storm, Work}
-use Rattle.fuxi_command.proofs.OutcomesLemmas.{alone_keeps, diskless, node_diskless, node_untouched, of_command, of_none, storm_ends, work_lines, work_records}
+use Rattle.fuxi_command.specs.Outcomes.{seen}
+use Rattle.fuxi_command.proofs.OutcomesLemmas.{alone_keeps, diskless, ends_for, lease_tells, node_diskless, node_untouched, of_command, of_none, storm_ends, work_diskless, work_ends, work_lines}
 use Rattle.fuxi_command.proofs.ReplaysLemmas.{begun}
 use Rattle.fuxi_command.proofs.Untouched.{untouched}
 use Rattle.fuxi_command.proofs.top.run_command.Goals as goal
@@ -63,29 +66,15 @@ returns-in-Some-Node g c =
     }) (record { node = r.ended; places = r.places; complete = r.complete; stays = r.stays; unopened = r.unopened; told = r.told })
 
 pub returns-in-Some-Lease : goal.returns-in-Some-Lease
-returns-in-Some-Lease g c = let r = c.run_lease.ensures in of_command _ Lease _ _ _ _ _ _ _ (sym (rw c.in-Some-Lease.field-0-is at c.in-Some-Lease.ensures.is)) (record {
-  usage = r.usage;
-  read = r.read;
-  write = r.write;
-  faults = (r.reads_served, r.writes_served, r.disk_served);
-  keeps = r.keeps;
-  limit = λ kept is. (r.limit _ kept is).1;
-  disk = r.disk;
-  no_door = λ no. refl;
-  no_file = λ no. absurd cc;
-  diskless = λ no. absurd cc;
-}) (record { ended = r.ended; told = record { damaged = r.damaged; limit = λ what kept is. (r.limit what kept is).0; fresh = r.stale }; complete = r.complete })
+returns-in-Some-Lease g c = let r = c.run_lease.ensures in of_command _ Lease _ _ _ _ _ _ _ (sym (rw c.in-Some-Lease.field-0-is at c.in-Some-Lease.ensures.is))
+    (ends_for (lease_causes _) Lease c.run_lease.result _ _ _ _ r.status (λ no. no) (λ kept limit. limit.1) r.keeps (λ no. refl) (λ no. absurd cc) (λ no. absurd cc))
+    (record { ended = r.ended; told = lease_tells _ _ c.run_lease.result (g.D.Disk.told c.args.disk.now) r.status (λ offset damaged. damaged.0); complete = r.complete })
 
 pub returns-in-Some-Work : goal.returns-in-Some-Work
-returns-in-Some-Work g c = let r = c.run_work.ensures in of_command _ Work _ _ _ _ _ _ _ (sym (rw c.in-Some-Work.field-0-is at c.in-Some-Work.ensures.is)) (record {
-  usage = r.usage;
-  read = r.read;
-  write = r.write;
-  faults = (r.reads_served, r.writes_served, λ other. refl);
-  keeps = alone_keeps (g.D.Disk.told c.args.disk.now);
-  limit = λ kept is. work_lines c.run_work.result kept r.limit is;
-  disk = λ failed. absurd (r.disk failed);
-  no_door = λ no. refl;
-  no_file = λ no. refl;
-  diskless = λ no. diskless c.run_work.result r.disk r.stale r.damaged (λ kept is. work_records c.run_work.result kept r.limit is);
-}) (record { ended = r.ended; complete = r.complete })
+returns-in-Some-Work g c =
+    let r = c.run_work.ensures in
+    let old = seen (g.S.Source.left c.args.input.now) (g.O.Sink.took c.args.out.now) (g.D.Disk.told c.args.disk.now) (g.N.Door.told c.args.door.now) (g.S.Source.faults c.args.input.now) (g.O.Sink.faults c.args.out.now) (g.D.Disk.faults c.args.disk.now) (g.N.Door.faults c.args.door.now) in
+    let new = seen (g.S.Source.left c.run_work.new.source) (g.O.Sink.took c.run_work.new.out) (g.D.Disk.told c.args.disk.now) (g.N.Door.told c.args.door.now) (g.S.Source.faults c.run_work.new.source) (g.O.Sink.faults c.run_work.new.out) (g.D.Disk.faults c.args.disk.now) (g.N.Door.faults c.args.door.now) in
+    of_command _ Work _ _ _ _ _ _ _ (sym (rw c.in-Some-Work.field-0-is at c.in-Some-Work.ensures.is))
+    (ends_for work_causes Work c.run_work.result _ _ old new (work_ends c.run_work.result old new r.status refl) (λ no. no) work_lines (alone_keeps (g.D.Disk.told c.args.disk.now)) (λ no. refl) (λ no. refl) (λ no. work_diskless c.run_work.result old new r.status))
+    (record { ended = r.ended; complete = r.complete })
